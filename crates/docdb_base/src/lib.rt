@@ -1,0 +1,14 @@
+//! The list type that contracts see as its items, the trait for copies that may find no memory, and
+//! the generator of numbers.
+#![tactic(auto)]
+
+mod generator;
+mod seq;
+mod try_copy;
+
+pub use generator::Generator;
+pub use seq::Seq;
+pub use try_copy::TryCopy;
+
+/// Want of memory.
+pub type Memory = std::alloc::AllocError;

@@ -1,0 +1,29 @@
+//! Copies that may find no memory.
+ghost use Rattle.std.specs.Prelude.{◌≡◌, IfOk};
+
+use crate::Memory;
+use std::alloc::Global;
+
+/// A value of which an equal one can be made.
+pub trait TryCopy {
+    fn try_copy(&self, alloc: Global) -> Result<Self, Memory>
+        ensures { IfOk result (λ copy. copy ≡ self.now) };
+}
+
+impl TryCopy for u8 {
+    fn try_copy(&self, _alloc: Global) -> Result<u8, Memory> {
+        Ok(*self)
+    }
+}
+
+impl TryCopy for u32 {
+    fn try_copy(&self, _alloc: Global) -> Result<u32, Memory> {
+        Ok(*self)
+    }
+}
+
+impl TryCopy for u64 {
+    fn try_copy(&self, _alloc: Global) -> Result<u64, Memory> {
+        Ok(*self)
+    }
+}

@@ -1,0 +1,51 @@
+//! A hybrid time.
+ghost use Rattle.std.specs.Prelude.{◌≡◌, ℕ, ◌<◌, ◌^◌};
+ghost use Rattle.hybrid_time.specs.Time.{time_at, micros_of, logical_of};
+
+use std::marker::Model;
+
+/// A hybrid time: microseconds in its upper 52 bits, a logical counter in its lower 12 bits. Contracts see the number.
+#[derive(Clone, Copy, Debug, PartialEq, Eq, PartialOrd, Ord, Hash)]
+pub struct HybridTime {
+    bits: u64,
+}
+
+impl Model for HybridTime {
+    ghost use Rattle.std.specs.Prelude.{ℕ};
+
+    ghost Value = { ℕ };
+
+    ghost view = { λ t. t.bits };
+
+    ghost inverse = { λ n. record { bits = n } };
+}
+
+impl HybridTime {
+    /// The time 0.0, before all others.
+    pub const ZERO: HybridTime = HybridTime { bits: 0 };
+
+    /// The time of these microseconds and this logical counter.
+    pub fn of(micros: u64, logical: u16) -> HybridTime
+        requires micros { micros < 2 ^ 52 }
+        requires logical { logical < 4096 }
+        ensures { result ≡ time_at micros logical }
+    {
+        HybridTime {
+            bits: micros * 4096 + u64::from(logical),
+        }
+    }
+
+    /// Its microseconds.
+    pub fn micros(self) -> u64
+        ensures { result ≡ micros_of self }
+    {
+        self.bits / 4096
+    }
+
+    /// Its logical counter, below 4096.
+    pub fn logical(self) -> u16
+        ensures { result ≡ logical_of self }
+    {
+        (self.bits % 4096) as u16
+    }
+}
