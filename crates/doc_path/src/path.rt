@@ -1,14 +1,18 @@
 //! A path.
-ghost use Rattle.std.specs.Prelude.{◌≡◌, ◌∷◌, [], ◌≤◌, length, IfOk};
+ghost use Rattle.std.specs.Prelude.{◌≡◌, ◌↔◌, ◌∷◌, ◌++◌, [], ◌<◌, ◌≤◌, length, slice_get, Ok, Err, Some, IfOk, OnOk, OnErr};
+ghost use Rattle.doc_path.specs.Path.{is_prefix, related, path_order};
 
+use crate::path_refusal::PathRefusal;
 use docdb_base::{Memory, Seq, TryCopy};
 use std::alloc::Global;
+use std::cmp::Ordering;
 use std::marker::Model;
 
 /// A path: one to five byte strings, the first an encoded document key, the others encoded subkeys. Contracts see
 /// the list of its parts.
 #[derive(Debug, Drop)]
 pub struct Path {
+    alloc: Global,
     parts: Seq<Seq<u8>>,
 }
 
@@ -22,9 +26,92 @@ impl Model for Path {
     ghost invariant = { λ p. (1 ≤ length p.parts) × (length p.parts ≤ 5) };
 }
 
+/// The most parts that a path has.
+const MOST_PARTS: usize = 5;
+
+impl Path {
+    /// The path of one part.
+    pub fn of(alloc: Global, first: &[u8]) -> Result<Path, Memory>
+        ensures { IfOk result (λ p. p ≡ first.now ∷ []) }
+    {
+        let mut parts = Seq::new(alloc);
+        parts.push(Seq::of(first.to_vec(alloc)?))?;
+        Ok(Path { alloc, parts })
+    }
+
+    /// Puts a part at the end. After a refusal the path is as before. A path of five parts is refused as such, also
+    /// where there is no memory.
+    pub fn push(&mut self, part: &[u8]) -> Result<(), PathRefusal>
+        ensures ok { OnOk result (self.new ≡ self.old ++ part.now ∷ []) }
+        ensures too_many { (result ≡ Err PathRefusal.TooMany) ↔ (length self.old ≡ 5) }
+        ensures refused { OnErr result (self.new ≡ self.old) }
+    {
+        if self.parts.items().len() == MOST_PARTS {
+            return Err(PathRefusal::TooMany);
+        }
+        let bytes = part.to_vec(self.alloc).map_err(|_| PathRefusal::Memory)?;
+        self.parts
+            .push(Seq::of(bytes))
+            .map_err(|_| PathRefusal::Memory)
+    }
+
+    /// How many parts it has, one to five. It takes no memory.
+    pub fn parts(&self) -> usize
+        ensures value { result ≡ length self.now }
+        ensures least { 1 ≤ result }
+        ensures most { result ≤ 5 }
+    {
+        self.parts.items().len()
+    }
+
+    /// The part with this index, from 0. It takes no memory.
+    pub fn part(&self, i: usize) -> &[u8]
+        requires { i < length self.now }
+        ensures { slice_get self.now i ≡ Some result.now }
+    {
+        self.parts.items()[i].items()
+    }
+
+    /// Whether the parts of `other` begin with the parts of this one. It takes no memory.
+    pub fn is_prefix(&self, other: &Path) -> bool
+        ensures { result ≡ is_prefix self.now other.now }
+    {
+        let (own, others) = (self.parts.items(), other.parts.items());
+        for (part, others_part) in own.iter().zip(others) {
+            if part.items() != others_part.items() {
+                return false;
+            }
+        }
+        own.len() <= others.len()
+    }
+
+    /// Whether one of the two is a prefix of the other. It takes no memory.
+    pub fn related(&self, other: &Path) -> bool
+        ensures { result ≡ related self.now other.now }
+    {
+        self.is_prefix(other) || other.is_prefix(self)
+    }
+
+    /// The order of the two: by the first part that differs, and parts by the first byte that differs, in which a proper
+    /// prefix comes first. It takes no memory.
+    pub fn cmp(&self, other: &Path) -> Ordering
+        ensures { result ≡ path_order self.now other.now }
+    {
+        let (own, others) = (self.parts.items(), other.parts.items());
+        for (part, others_part) in own.iter().zip(others) {
+            let order = part.items().cmp(others_part.items());
+            if order.is_ne() {
+                return order;
+            }
+        }
+        own.len().cmp(&others.len())
+    }
+}
+
 impl TryCopy for Path {
     fn try_copy(&self, alloc: Global) -> Result<Path, Memory> {
         Ok(Path {
+            alloc,
             parts: self.parts.try_copy(alloc)?,
         })
     }

@@ -4,6 +4,8 @@
 
 mod generator;
 mod seq;
+#[cfg(test)]
+mod tests;
 mod try_copy;
 
 pub use generator::Generator;

@@ -27,3 +27,12 @@ impl TryCopy for u64 {
         Ok(*self)
     }
 }
+
+impl<T: TryCopy> TryCopy for Option<T> {
+    fn try_copy(&self, alloc: Global) -> Result<Option<T>, Memory> {
+        match self {
+            None => Ok(None),
+            Some(value) => Ok(Some(value.try_copy(alloc)?)),
+        }
+    }
+}

@@ -2,6 +2,8 @@
 ghost use Rattle.std.specs.Prelude.{◌≡◌, ℕ, ◌<◌, ◌^◌};
 ghost use Rattle.hybrid_time.specs.Time.{time_at, micros_of, logical_of};
 
+use docdb_base::{Memory, TryCopy};
+use std::alloc::Global;
 use std::marker::Model;
 
 /// A hybrid time: microseconds in its upper 52 bits, a logical counter in its lower 12 bits. Contracts see the number.
@@ -47,5 +49,11 @@ impl HybridTime {
         ensures { result ≡ logical_of self }
     {
         (self.bits % 4096) as u16
+    }
+}
+
+impl TryCopy for HybridTime {
+    fn try_copy(&self, _alloc: Global) -> Result<HybridTime, Memory> {
+        Ok(*self)
     }
 }

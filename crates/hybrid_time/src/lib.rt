@@ -7,6 +7,8 @@
 
 mod clock;
 mod hybrid;
+#[cfg(test)]
+mod tests;
 mod time_refusal;
 
 pub use clock::{at_least, limit, next};
