@@ -1,0 +1,10 @@
+pub mod Count
+pub mod MemLog
+pub mod MemSink
+pub mod MemSource
+pub mod Script
+pub mod Sink
+pub mod Source
+pub mod StdSink
+pub mod StdSource
+pub mod SteadySink
