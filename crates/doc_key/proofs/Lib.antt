@@ -1,0 +1,5 @@
+pub mod Columns
+pub mod Extends
+pub mod Fronts
+pub mod Groups
+pub mod Keys

@@ -1,0 +1,5 @@
+use Rattle.doc_key.proofs.Keys.{no_spelling_begins}
+use Rattle.doc_key.proofs.laws.no_spelling_begins_another.Goals as goal
+
+pub returns : goal.returns
+returns c = no_spelling_begins

@@ -1,0 +1,4 @@
+pub mod Hash
+pub mod Spelling
+pub mod Reading
+pub mod Showing
