@@ -1,0 +1,60 @@
+//! Why a command was not done.
+use crate::actor::Actor;
+use crate::txn_id::TxnId;
+use doc_path::Path;
+use docdb_base::{Memory, TryCopy};
+use hybrid_time::HybridTime;
+use std::alloc::Global;
+
+/// Why a command was not done.
+#[derive(Debug, Drop)]
+pub enum ToldRefusal {
+    Conflict { other: TxnId },
+    Overlap { at: HybridTime },
+    Aborted { by: TxnId },
+    Restart { at: HybridTime, path: Path },
+    LeaseHeld { actor: Actor, until: u64 },
+    ClockFull { actor: Actor, at: HybridTime },
+    ClockRange { actor: Actor, reading: u64 },
+    LogFault { actor: Actor },
+    Down { actor: Actor, since: u64 },
+    NoTxn,
+    TxnOpen,
+    InDoubt,
+    Memory,
+}
+
+impl TryCopy for ToldRefusal {
+    fn try_copy(&self, alloc: Global) -> Result<ToldRefusal, Memory> {
+        match self {
+            ToldRefusal::Conflict { other } => Ok(ToldRefusal::Conflict { other: *other }),
+            ToldRefusal::Overlap { at } => Ok(ToldRefusal::Overlap { at: *at }),
+            ToldRefusal::Aborted { by } => Ok(ToldRefusal::Aborted { by: *by }),
+            ToldRefusal::Restart { at, path } => Ok(ToldRefusal::Restart {
+                at: *at,
+                path: path.try_copy(alloc)?,
+            }),
+            ToldRefusal::LeaseHeld { actor, until } => Ok(ToldRefusal::LeaseHeld {
+                actor: *actor,
+                until: *until,
+            }),
+            ToldRefusal::ClockFull { actor, at } => Ok(ToldRefusal::ClockFull {
+                actor: *actor,
+                at: *at,
+            }),
+            ToldRefusal::ClockRange { actor, reading } => Ok(ToldRefusal::ClockRange {
+                actor: *actor,
+                reading: *reading,
+            }),
+            ToldRefusal::LogFault { actor } => Ok(ToldRefusal::LogFault { actor: *actor }),
+            ToldRefusal::Down { actor, since } => Ok(ToldRefusal::Down {
+                actor: *actor,
+                since: *since,
+            }),
+            ToldRefusal::NoTxn => Ok(ToldRefusal::NoTxn),
+            ToldRefusal::TxnOpen => Ok(ToldRefusal::TxnOpen),
+            ToldRefusal::InDoubt => Ok(ToldRefusal::InDoubt),
+            ToldRefusal::Memory => Ok(ToldRefusal::Memory),
+        }
+    }
+}
