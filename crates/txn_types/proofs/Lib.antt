@@ -1,0 +1,3 @@
+pub mod Simulated
+pub mod Cases
+pub mod ScheduleCases
