@@ -17,7 +17,7 @@ fn served(alloc: Global, words: &[&str], source: &mut impl Source, sink: &mut im
 /// The status and what is written where nothing fails.
 fn run(alloc: Global, words: &[&str], script: &[u8]) -> Result<(u8, Vec<u8>), Memory> {
     let mut source = SteadySource::of(script.to_vec(alloc)?);
-    let mut sink = SteadySink::of(alloc, 1 << 20)?;
+    let mut sink = SteadySink::of(alloc, 1 << 22)?;
     let status = served(alloc, words, &mut source, &mut sink);
     Ok((status, sink.taken().to_vec(alloc)?))
 }
@@ -91,6 +91,32 @@ fn a_tablet_gives_4096_times_at_one_reading(rt: HostRuntime) -> Result<(), Fail>
 t0 last passed applied=0 cleaned=0 left=0\n\
 total commands=4097 ok=4096 refused=1 committed=4096 reads=0 restarts=0 skew=ok\n";
     assert_eq!(rt; told.1.ends_with(end), true);
+    Ok(())
+}
+
+#[test]
+fn a_script_has_100_000_commands_at_most(rt: HostRuntime) -> Result<(), Fail> {
+    let alloc = rt.alloc();
+    // the commands, the status, the end of what is written
+    let table: [(u32, u8, &[u8]); 2] = [
+        (
+            100_000,
+            0,
+            b"\n1.100000 clock set\n\
+t0 last passed applied=0 cleaned=0 left=0\n\
+total commands=100000 ok=100000 refused=0 committed=0 reads=0 restarts=0 skew=ok\n",
+        ),
+        (100_001, 1, b"refused script 100002 later\n"),
+    ];
+    for (commands, status, end) in table {
+        let mut script = b"---\n".to_vec(alloc)?;
+        for _ in 0..commands {
+            script.extend_from_slice(b"1: clock 0 1000000\n")?;
+        }
+        let told = run(alloc, &["sim"], script.as_slice())?;
+        assert_eq!(rt; told.0, status, "{commands}");
+        assert_eq!(rt; told.1.ends_with(end), true, "{commands}");
+    }
     Ok(())
 }
 
