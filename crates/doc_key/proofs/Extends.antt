@@ -81,7 +81,7 @@ unfolding plain_key_at
 plain_key_extends whole bytes more =
     extends_bind whole more (group_at whole bytes) (group_at (whole + length more) (bytes ++ more)) (key_with []) (key_with []) (group_extends whole bytes more) (λ range. refl)
 
-key_extends : (whole : ℕ) (bytes more : List ℕ) → Extends whole more (key_at whole bytes) (key_at (whole + length more) (bytes ++ more))
+pub key_extends : (whole : ℕ) (bytes more : List ℕ) → Extends whole more (key_at whole bytes) (key_at (whole + length more) (bytes ++ more))
 unfolding key_at
 key_extends whole [] more = refl
 key_extends whole (tag ∷ bytes) more =

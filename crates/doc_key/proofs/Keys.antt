@@ -20,7 +20,7 @@ use Rattle.doc_key.proofs.Columns.{TakesGroup, other_tag, columns_take, columns_
 word-lt : (place n : ℕ) → word place n < 2 ^ 16
 word-lt place n = mod_below _ _ (omega arith)
 
-hash_of-lt : (bytes : List ℕ) → hash_of bytes < 2 ^ 16
+pub hash_of-lt : (bytes : List ℕ) → hash_of bytes < 2 ^ 16
 hash_of-lt bytes =
     let h = fnv bytes in
     xor_lt 16 _ _ (xor_lt 16 _ _ (xor_lt 16 _ _ (word-lt 48 h) (word-lt 32 h)) (word-lt 16 h)) (word-lt 0 h)
@@ -34,7 +34,7 @@ pub record TakesKey (bytes : List ℕ) (key : DocKey) (rest : List ℕ) : Type 0
 abbrev FoundKey : List ℕ → DocKey × List ℕ → Type 0
 FoundKey bytes x = TakesKey bytes x.0 x.1
 
-abbrev key_with : List Primitive → List Primitive → DocKey
+abbrev pub key_with : List Primitive → List Primitive → DocKey
 key_with hashed range = record { hashed = hashed; range = range }
 
 spelled_key : (hashed range : List Primitive) → list_all is_column hashed ≡ true → list_all is_column range ≡ true → 1 ≤ length hashed + length range → length hashed + length range ≤ 8
@@ -114,7 +114,7 @@ pub record IsSpelled (hashed range : List Primitive) : Type 0 where
   pub some : 1 ≤ length hashed + length range
   pub few : length hashed + length range ≤ 8
 
-is_spelled : (hashed range : List Primitive) → IsTrue (has_spelling (key_with hashed range)) → IsSpelled hashed range
+pub is_spelled : (hashed range : List Primitive) → IsTrue (has_spelling (key_with hashed range)) → IsSpelled hashed range
 is_spelled hashed range has =
     let few = and_parts (list_all is_column hashed && list_all is_column range && leb 1 (length hashed + length range)) (leb (length hashed + length range) 8) has in
     let some = and_parts (list_all is_column hashed && list_all is_column range) (leb 1 (length hashed + length range)) few.0 in
@@ -176,7 +176,7 @@ all_takes bytes key fits e =
     let t : TakesKey bytes key [] = subst (FoundKey bytes) (ended_ok (length bytes) a.0 key a.2) (key_found (length bytes) bytes a.0 fits a.1) in
     (t.in_range, t.has, t.parts ∙ append-nil (spelling key))
 
-all_again : (key : DocKey) → IsInRange key → IsTrue (has_spelling key) → key_of (spelling key) ≡ Ok key
+pub all_again : (key : DocKey) → IsInRange key → IsTrue (has_spelling key) → key_of (spelling key) ≡ Ok key
 unfolding key_of ended
 all_again key in_range has =
     let whole : ℕ = length (spelling key) in

@@ -3,3 +3,4 @@ pub mod Extends
 pub mod Fronts
 pub mod Groups
 pub mod Keys
+pub mod Order

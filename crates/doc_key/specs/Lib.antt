@@ -2,3 +2,4 @@ pub mod Hash
 pub mod Spelling
 pub mod Reading
 pub mod Showing
+pub mod Order

@@ -1,7 +1,10 @@
-//! What holds of spelling and reading together.
+//! What holds of spelling, reading and order together.
 ghost use Rattle.std.specs.Prelude.{◌≡◌, ◌++◌, ◌∷◌, ℕ, length, List, Ok, IsTrue};
+ghost use Rattle.std.specs.Cmp.Lexicographic.{slice_cmp};
+ghost use Rattle.std.specs.Ordering.{nat_cmp};
 ghost use Rattle.doc_value.specs.Reading.{Foretells, IsBytes};
 ghost use Rattle.doc_key.specs.declared.doc_key.DocKey.{DocKey};
+ghost use Rattle.doc_key.specs.Order.{key_order};
 ghost use Rattle.doc_key.specs.Spelling.{spelling, has_spelling, IsInRange};
 ghost use Rattle.doc_key.specs.Reading.{key_at, key_of};
 
@@ -26,4 +29,10 @@ pub fn no_spelling_begins_another()
 /// A refusal is the first from the left: the answer to the bytes up to there is the answer to all.
 pub fn a_front_foretells()
     ensures { (front : List ℕ) (b : ℕ) (more : List ℕ) → Foretells (length front) (key_of front) (key_of (front ++ b ∷ more)) }
+{}
+
+/// The order of spellings as bytes is the order of keys.
+pub fn bytes_are_in_order()
+    ensures { (p q : DocKey) → IsInRange p → IsInRange q → IsTrue (has_spelling p) → IsTrue (has_spelling q)
+        → slice_cmp nat_cmp (spelling p) (spelling q) ≡ key_order p q }
 {}

@@ -22,7 +22,7 @@ from-above_least : (z : ℤ) → FitsSigned w64 z → pos (above_least z) -ℤ p
 from-above_least (pos n) fits = omega (arith, ints)
 from-above_least (negsuc n) fits = omega (arith, ints, fits.sfits)
 
-above_least-lt : (z : ℤ) → FitsSigned w64 z → above_least z < 2 ^ 64
+pub above_least-lt : (z : ℤ) → FitsSigned w64 z → above_least z < 2 ^ 64
 above_least-lt (pos n) fits = omega (arith, fits.sfits)
 above_least-lt (negsuc n) fits = omega (arith, fits.sfits)
 
@@ -130,7 +130,7 @@ all_takes bytes value fits e =
     let t : Takes bytes value [] = subst (Found bytes) x-is (value_found (length bytes) bytes a.0 fits a.1) in
     (t.in_range, t.has, t.parts ∙ append-nil (spelling value))
 
-all_again : (value : Primitive) → IsInRange value → IsTrue (has_spelling value) → value_of (spelling value) ≡ Ok value
+pub all_again : (value : Primitive) → IsInRange value → IsTrue (has_spelling value) → value_of (spelling value) ≡ Ok value
 unfolding value_of ended
 all_again value in_range has =
     let whole : ℕ = length (spelling value) in

@@ -1,6 +1,9 @@
-//! What holds of spelling and reading together.
+//! What holds of spelling, reading and order together.
 ghost use Rattle.std.specs.Prelude.{◌≡◌, ◌++◌, ◌∷◌, ℕ, length, List, Ok, IsTrue};
+ghost use Rattle.std.specs.Cmp.Lexicographic.{slice_cmp};
+ghost use Rattle.std.specs.Ordering.{nat_cmp};
 ghost use Rattle.doc_value.specs.declared.primitive.Primitive.{Primitive};
+ghost use Rattle.doc_value.specs.Order.{value_order};
 ghost use Rattle.doc_value.specs.Spelling.{spelling, has_spelling, IsInRange};
 ghost use Rattle.doc_value.specs.Reading.{value_at, value_of, Foretells, IsBytes};
 
@@ -25,4 +28,9 @@ pub fn no_spelling_begins_another()
 /// A refusal is the first from the left: the answer to the bytes up to there is the answer to all.
 pub fn a_front_foretells()
     ensures { (front : List ℕ) (b : ℕ) (more : List ℕ) → Foretells (length front) (value_of front) (value_of (front ++ b ∷ more)) }
+{}
+
+/// The order of spellings as bytes is the order of values.
+pub fn bytes_are_in_order()
+    ensures { (p q : Primitive) → IsInRange p → IsInRange q → slice_cmp nat_cmp (spelling p) (spelling q) ≡ value_order p q }
 {}

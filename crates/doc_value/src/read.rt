@@ -11,7 +11,9 @@ use crate::tag;
 use docdb_base::Seq;
 use std::alloc::Global;
 
-fn u32_at(whole: usize, bytes: &[u8]) -> Result<(u32, &[u8]), KeyRefusal>
+/// The number of 32 bits at the front of `bytes`, high byte first, and the bytes after it. `bytes` are the last of
+/// `whole` bytes, as in [`read_value`]. It takes no memory.
+pub fn read_u32(whole: usize, bytes: &[u8]) -> Result<(u32, &[u8]), KeyRefusal>
     ensures value { Gives (λ x. (x.0, x.1.now)) result (number_at w32 whole bytes.now) }
     ensures rest { IfOk result (λ x. length x.1.now ≤ length bytes.now) }
 {
@@ -23,7 +25,8 @@ fn u32_at(whole: usize, bytes: &[u8]) -> Result<(u32, &[u8]), KeyRefusal>
     Ok((number, rest))
 }
 
-fn u64_at(whole: usize, bytes: &[u8]) -> Result<(u64, &[u8]), KeyRefusal>
+/// The number of 64 bits at the front of `bytes`, as [`read_u32`] reads one of 32 bits.
+pub fn read_u64(whole: usize, bytes: &[u8]) -> Result<(u64, &[u8]), KeyRefusal>
     ensures value { Gives (λ x. (x.0, x.1.now)) result (number_at w64 whole bytes.now) }
     ensures rest { IfOk result (λ x. length x.1.now ≤ length bytes.now) }
 {
@@ -73,7 +76,7 @@ fn int_at(whole: usize, bytes: &[u8]) -> Result<(Primitive, &[u8]), KeyRefusal>
     ensures value { Gives (λ x. (x.0, x.1.now)) result (int_at whole bytes.now) }
     ensures rest { IfOk result (λ x. length x.1.now ≤ length bytes.now) }
 {
-    let (number, rest) = u64_at(whole, bytes)?;
+    let (number, rest) = read_u64(whole, bytes)?;
     Ok((Primitive::Int(from_above_least(number)), rest))
 }
 
@@ -82,7 +85,7 @@ fn column_id_at(whole: usize, bytes: &[u8]) -> Result<(Primitive, &[u8]), KeyRef
     ensures value { Gives (λ x. (x.0, x.1.now)) result (column_id_at whole bytes.now) }
     ensures rest { IfOk result (λ x. length x.1.now ≤ length bytes.now) }
 {
-    let (number, rest) = u32_at(whole, bytes)?;
+    let (number, rest) = read_u32(whole, bytes)?;
     Ok((Primitive::Column(number), rest))
 }
 
