@@ -1,0 +1,4 @@
+pub mod Took
+pub mod Answered
+pub mod Rise
+pub mod Runs

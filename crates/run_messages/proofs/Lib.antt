@@ -1,0 +1,5 @@
+pub mod Rules
+pub mod Safe
+pub mod Moves
+pub mod Runs
+pub mod Flights
