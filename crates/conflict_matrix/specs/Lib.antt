@@ -1,0 +1,4 @@
+pub mod Conflict
+pub mod Laws
+pub mod Decide
+pub mod Steps

@@ -1,0 +1,162 @@
+//! The intents of a write, and what it is answered.
+ghost use Rattle.std.specs.Prelude.{◌≡◌, ℕ, ◌++◌, ◌∷◌, [], Option, IfOk, OnOk};
+ghost use Rattle.txn_types.specs.Tablet.{first_fate as fate_in, is_open as stands_open, commit_time};
+ghost use Rattle.conflict_matrix.specs.Conflict.{intents_of as intents_on, weak_at};
+ghost use Rattle.conflict_matrix.specs.Decide.{least_open as least_in, overlap, decision};
+ghost use Rattle.conflict_matrix.specs.Steps.{lesser as lesser_of, with_time as time_with};
+
+use crate::decision::Decision;
+use crate::intent_at::IntentAt;
+use crate::kind::Kind;
+use doc_path::Path;
+use docdb_base::{Memory, TryCopy};
+use hybrid_time::HybridTime;
+use std::alloc::{AllocError, Global};
+use txn_types::{Fate, FateOf, Fates, Found, Founds, TxnId};
+
+/// The intents that a snapshot write takes: weak ones on each path that its own lies beneath, the shortest first, and
+/// strong ones on its own. On each path the read comes before the write.
+pub fn intents_of(alloc: Global, path: &Path) -> Result<Vec<IntentAt>, Memory>
+    ensures { IfOk result (λ intents. intents.items ≡ intents_on path.now) }
+{
+    let mut intents = Vec::new(alloc);
+    let parts = path.parts();
+    let mut above = Path::of(alloc, path.part(0))?;
+    for i in 1..parts {
+        push_intent(&mut intents, alloc, &above, Kind::WeakRead)?;
+        push_intent(&mut intents, alloc, &above, Kind::WeakWrite)?;
+        above.push(path.part(i)).map_err(|_| AllocError)?;
+    }
+    push_intent(&mut intents, alloc, path, Kind::StrongRead)?;
+    push_intent(&mut intents, alloc, path, Kind::StrongWrite)?;
+    Ok(intents)
+}
+
+fn push_intent(
+    intents: &mut Vec<IntentAt>,
+    alloc: Global,
+    path: &Path,
+    kind: Kind,
+) -> Result<(), Memory>
+    ensures { OnOk result (intents.new.items ≡ intents.old.items ++ (record { path = path.now; kind = kind }) ∷ []) }
+{
+    let path = path.try_copy(alloc)?;
+    intents
+        .push(IntentAt { path, kind })
+        .map_err(AllocError::from)
+}
+
+/// What a write is answered. `others` are the other transactions that have a related provisional write, `fates` what is
+/// known of them, of which the first of each transaction counts, and `newest` the commit time of the newest related
+/// version. A write without a read time never overlaps. It takes no memory.
+pub fn decide(
+    others: &Founds,
+    fates: &Fates,
+    read: Option<HybridTime>,
+    newest: Option<HybridTime>,
+) -> Decision
+    ensures { result ≡ decision (least_in others.now fates.now) (overlap read newest others.now fates.now) }
+{
+    if let Some(other) = least_open(others.items(), fates.items()) {
+        return Decision::Conflict { other };
+    }
+    match read {
+        None => Decision::Go,
+        Some(read) => match overlap_above(read, newest, others.items(), fates.items()) {
+            Some(at) => Decision::Overlap { at },
+            None => Decision::Go,
+        },
+    }
+}
+
+// The first fate of a transaction among those that are given.
+fn first_fate(fates: &[FateOf], txn: TxnId) -> Option<Fate>
+    ensures { result ≡ fate_in fates.now txn }
+{
+    for of in fates {
+        if of.txn == txn {
+            return Some(of.fate);
+        }
+    }
+    None
+}
+
+// The commit time that the first fate of a transaction names.
+fn fate_time(fates: &[FateOf], txn: TxnId) -> Option<HybridTime>
+    ensures { result ≡ commit_time (fate_in fates.now txn) }
+{
+    match first_fate(fates, txn) {
+        Some(fate) => time_of(&fate),
+        None => None,
+    }
+}
+
+fn time_of(fate: &Fate) -> Option<HybridTime>
+    ensures { result ≡ commit_time (Some fate.now) }
+{
+    match fate {
+        Fate::Committed { at } => Some(*at),
+        _ => None,
+    }
+}
+
+// Whether a transaction has no fate, or the fate Pending.
+fn is_open(fates: &[FateOf], txn: TxnId) -> bool
+    ensures { result ≡ stands_open (fate_in fates.now txn) }
+{
+    matches!(first_fate(fates, txn), None | Some(Fate::Pending))
+}
+
+fn least_open(others: &[Found], fates: &[FateOf]) -> Option<TxnId>
+    ensures { result ≡ least_in others.now fates.now }
+{
+    let mut least: Option<TxnId> = None;
+    for other in others {
+        if is_open(fates, other.txn) {
+            least = lesser(other.txn, least);
+        }
+    }
+    least
+}
+
+fn overlap_above(
+    read: HybridTime,
+    newest: Option<HybridTime>,
+    others: &[Found],
+    fates: &[FateOf],
+) -> Option<HybridTime>
+    ensures { result ≡ overlap (Some read) newest others.now fates.now }
+{
+    let mut greatest = with_time(read, newest, None);
+    for other in others {
+        greatest = with_time(read, fate_time(fates, other.txn), greatest);
+    }
+    greatest
+}
+
+// The lesser of an id and the least so far.
+fn lesser(txn: TxnId, least: Option<TxnId>) -> Option<TxnId>
+    ensures { result ≡ lesser_of txn least }
+{
+    match least {
+        Some(other) if other < txn => Some(other),
+        _ => Some(txn),
+    }
+}
+
+// The greater of a time, where there is one above the read time, and the greatest so far.
+fn with_time(
+    read: HybridTime,
+    at: Option<HybridTime>,
+    greatest: Option<HybridTime>,
+) -> Option<HybridTime>
+    ensures { result ≡ time_with read at greatest }
+{
+    match at {
+        Some(at) if read < at => match greatest {
+            Some(other) if at < other => Some(other),
+            _ => Some(at),
+        },
+        _ => greatest,
+    }
+}
