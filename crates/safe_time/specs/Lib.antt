@@ -1,0 +1,3 @@
+pub mod ActorClock
+pub mod Course
+pub mod Refusals

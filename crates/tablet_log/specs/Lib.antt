@@ -1,0 +1,5 @@
+pub mod Frames
+pub mod Entries
+pub mod Replay
+pub mod Logged
+pub mod Refusals

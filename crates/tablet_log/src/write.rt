@@ -1,0 +1,64 @@
+//! The frames of records, and their append.
+ghost use Rattle.std.specs.Prelude.{◌≡◌, ◌≤◌, ◌⊎◌, ◌++◌, [], length, take, IfOk, OnOk, OnErr, IsErrOf, IsTrue};
+ghost use Rattle.std.specs.List.{list_all};
+ghost use Rattle.docdb_outside.specs.Count.{Rose};
+ghost use Rattle.log_record.specs.Spelling.{has_spelling};
+ghost use Rattle.tablet_log.specs.Frames.{frame, frames};
+
+use crate::log_refusal::LogRefusal;
+use docdb_base::Memory;
+use docdb_outside::LogStore;
+use log_record::{LogRecord, spellings_are_short};
+use std::alloc::Global;
+
+#[tactic(auto, unfolding(log_record::specs::Spelling::u32_spelling))]
+fn append_frame(alloc: Global, logged: &LogRecord, out: &mut Vec<u8>) -> Result<(), Memory>
+    requires { IsTrue (has_spelling logged.now) }
+    ensures { OnOk result (out.new.items ≡ out.old.items ++ frame logged.now) }
+{
+    spellings_are_short();
+    let mut payload = Vec::new(alloc);
+    logged.encode(&mut payload)?;
+    out.extend_from_slice(&(payload.len() as u32).to_be_bytes())?;
+    out.extend_from_slice(&payload)
+}
+
+/// The frames of these records, as `append` hands them over.
+pub fn frames(alloc: Global, records: &[LogRecord]) -> Result<Vec<u8>, Memory>
+    requires { IsTrue (list_all has_spelling records.now) }
+    ensures { IfOk result (λ bytes. bytes.items ≡ frames records.now) }
+{
+    let mut bytes = Vec::new(alloc);
+    for logged in records {
+        append_frame(alloc, logged, &mut bytes)?;
+    }
+    Ok(bytes)
+}
+
+/// Puts the frames of these records at the end of a log, in one append of the store. After a fault of the store all of
+/// them are held, or none.
+pub fn append<L: LogStore>(
+    log: &mut L,
+    alloc: Global,
+    records: &[LogRecord],
+) -> Result<(), LogRefusal>
+    requires { IsTrue (list_all has_spelling records.now) }
+    ensures ok { OnOk result (L.held log.new ≡ L.held log.old ++ frames records.now) }
+    ensures all_or_none { OnErr result
+        ((L.held log.new ≡ L.held log.old) ⊎ (L.held log.new ≡ L.held log.old ++ frames records.now)) }
+    ensures loads { L.loads log.new ≡ L.loads log.old }
+
+    // It fails only where the store did.
+    ensures faults { L.faults log.old ≤ L.faults log.new }
+    ensures failed { IsErrOf result LogRefusal.LogFault → Rose (L.faults log.old) (L.faults log.new) }
+
+    // Want of memory changes nothing.
+    ensures memory_held { IsErrOf result LogRefusal.Memory → L.held log.new ≡ L.held log.old }
+    ensures memory_faults { IsErrOf result LogRefusal.Memory → L.faults log.new ≡ L.faults log.old }
+    ensures memory_room { IsErrOf result LogRefusal.Memory → L.room log.new ≡ L.room log.old }
+{
+    let bytes = frames(alloc, records)?;
+    log.make_room(bytes.len())?;
+    log.append(&bytes)?;
+    Ok(())
+}
