@@ -80,9 +80,18 @@ home_counted config x h e run m =
 counting_part : (e : Entry) (h : History) → Member e (counting h) → Member e h
 counting_part e h m = own_member e e.actor h (counted_member e false (own e.actor h) (member_counted e e.actor h refl m))
 
-pub committed_finished : (config : Config) (h : History) (x c : ℕ) → Run config h → CommittedAt h x c → life x (home_log config x h) ≡ Finished c
+-- the entry that committed it
+pub record CommitEntry (config : Config) (h : History) (x c : ℕ) : Type 0 where
+  pub entry : Entry
+  pub member : Member entry h
+  pub counts : Member entry (counting h)
+  pub commits : Commits x c entry.event
+  pub home : entry.actor ≡ Status (home_of config x)
+  pub was_logged : was_logged entry.event ≡ true
+
+pub commit_entry : (config : Config) (h : History) (x c : ℕ) → Run config h → CommittedAt h x c → CommitEntry config h x c
 unfolding committed_snapshots
-committed_finished config h x c run at =
+commit_entry config h x c run at =
     let r = flat_member (λ (e : Entry). snapshot_by h e.event) at.0 (counting h) at.1 in
     let e = r.0 in
     let mh : Member e h = counting_part e h r.1 in
@@ -91,9 +100,19 @@ committed_finished config h x c run at =
     let place = member_stands e h mh in
     let served : ServesNext config.lease_us (Status (home_of config x)) (own e.actor place.0) e.reading e.event =
     subst (λ (b : Actor). ServesNext config.lease_us b (own e.actor place.0) e.reading e.event) home (serves_at config e place.0 h run.1 place.1) in
-    let was = commit_logs_event config.lease_us (home_of config x) (own e.actor place.0) e.reading x at.0.at e.event served commits in
-    subst (λ (d : ℕ). life x (home_log config x h) ≡ Finished d) at.3
-    (commit_finished x at.0.at (home_log config x h) e (home_lands config x h run) (counted_home config x h e run home r.1 was) commits)
+    record {
+      entry = e;
+      member = mh;
+      counts = r.1;
+      commits = subst (λ (d : ℕ). Commits x d e.event) at.3 commits;
+      home = home;
+      was_logged = commit_logs_event config.lease_us (home_of config x) (own e.actor place.0) e.reading x at.0.at e.event served commits;
+    }
+
+pub committed_finished : (config : Config) (h : History) (x c : ℕ) → Run config h → CommittedAt h x c → life x (home_log config x h) ≡ Finished c
+committed_finished config h x c run at =
+    let k = commit_entry config h x c run at in
+    commit_finished x c (home_log config x h) k.entry (home_lands config x h run) (counted_home config x h k.entry run k.home k.counts k.was_logged) k.commits
 
 commit_snapshot : (h : History) (x c : ℕ) (event : Event) → Commits x c event → (y : CommittedTxn) × Member y (snapshot_by h event) × (y.txn ≡ x) × (y.at ≡ c)
 commit_snapshot h x c (Serve from (request.Commit z floor tablets) r (Some d) append) is = (record { txn = z; at = d; writes = writes h z }, inl refl, is.0, is.1)

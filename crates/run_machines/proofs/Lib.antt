@@ -4,3 +4,4 @@ pub mod Counted
 pub mod Owns
 pub mod Landed
 pub mod Lands
+pub mod Since

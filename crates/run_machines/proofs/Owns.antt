@@ -119,3 +119,27 @@ pub serves_all_own : (lease : ℕ) (a : Actor) (o : History) → ServesAll lease
 unfolding ServesAll AllOf
 serves_all_own lease a [] all = tt
 serves_all_own lease a (e ∷ o) all = (serves_all_own lease a o all.0, all.1)
+
+-- of two entries one stands before the other, or they are one
+pub data Order (e f : Entry) (h : History) : Type 0 where
+  Before : (before : History) → StandsOver f before h → Member e before → Order e f h
+  After : (before : History) → StandsOver e before h → Member f before → Order e f h
+  One : e ≡ f → Order e f h
+
+order_more : (e f g : Entry) (h : History) → Order e f h → Order e f (g ∷ h)
+order_more e f g h (Before before stands m) = Before before (inr stands) m
+order_more e f g h (After before stands m) = After before (inr stands) m
+order_more e f g h (One is) = One is
+
+pub in_order : (e f : Entry) (h : History) → Member e h → Member f h → Order e f h
+in_order e f [] m n = absurd m
+in_order e f (g ∷ h) m n = elim m [
+  | inl here ↦ elim n [
+    | inl there ↦ One (here ∙ sym there)
+    | inr below ↦ After h (inl (sym here, refl)) below
+  ]
+  | inr more ↦ elim n [
+    | inl there ↦ Before h (inl (sym there, refl)) more
+    | inr below ↦ order_more e f g h (in_order e f h more below)
+  ]
+]

@@ -3,3 +3,4 @@ pub mod Safe
 pub mod Moves
 pub mod Runs
 pub mod Flights
+pub mod Shapes

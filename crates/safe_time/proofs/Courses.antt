@@ -1,17 +1,16 @@
 -- Each course of a clock is sound: its times are leased, and none is above the last one.
-use Rattle.std.proofs.Common.{◌≡◌, ℕ, ◌+◌, ◌*◌, ◌/◌, ◌%◌, ◌<◌, ◌≤◌, max, Bool, true, false, not, ◌&&◌, cond, ltb, leb, eqb, ◌⊎◌, List, [], ◌∷◌, Option, Some, None, Result, Ok, Err, refl, sym, ap, subst, ◌∙◌, arith, inl, inr}
+use Rattle.std.proofs.Common.{◌≡◌, ℕ, ◌+◌, ◌*◌, ◌%◌, ◌<◌, ◌≤◌, max, Bool, true, false, cond, ltb, eqb, ◌⊎◌, List, [], ◌∷◌, Option, Some, None, Result, Ok, Err, refl, sym, ap, subst, ◌∙◌, arith, inl, inr}
 use Rattle.std.proofs.lemmas.Bool.{ltb-true, ltb-false, leb-false}
-use Rattle.hybrid_time.specs.Time.{micros_of, time_at, time_after, next_time, least_time}
+use Rattle.hybrid_time.specs.Time.{micros_of, time_at, time_after}
 use Rattle.hybrid_time.specs.declared.time_refusal.TimeRefusal.{TimeRefusal}
 use Rattle.hybrid_time.specs.declared.time_refusal.TimeRefusal.TheVariants.{ClockFull, ClockRange}
 use Rattle.txn_types.specs.Lists.{or_else, or_zero}
 use Rattle.txn_types.specs.Clock.{holds, lease_due, clock_time}
-use Rattle.safe_time.specs.Refusals.{refused_by}
 use Rattle.safe_time.specs.declared.step.Step.{Step}
 use Rattle.safe_time.specs.declared.clock_refusal.ClockRefusal.{ClockRefusal}
 use Rattle.safe_time.specs.declared.clock_refusal.ClockRefusal.TheVariants.{LeaseHeld}
-use Rattle.safe_time.specs.ActorClock.{ClockState, kind_of, lease_for, step_of, served, taken, restarted}
-use Rattle.safe_time.specs.Course.{Happening, Takes, Fails, Restarts, Course, begun, counts, takes, fails, decided, unless_down, after, course, IsLater, AllLater, IsLeased, AllLeased}
+use Rattle.safe_time.specs.ActorClock.{ClockState, kind_of, lease_for, step_of, served, restarted}
+use Rattle.safe_time.specs.Course.{Happening, Takes, Fails, Restarts, Course, takes, fails, decided, unless_down, after, course, IsLater, AllLater, IsLeased, AllLeased}
 
 -- which way a test went
 chosen : {A : Type 0} (b : Bool) (x y z : A) → cond b x y ≡ z → ((b ≡ true) × (x ≡ z)) ⊎ ((b ≡ false) × (y ≡ z))
@@ -73,7 +72,7 @@ step_is c (Ok time) step e =
     (ap (λ (s : Step). Ok s.time) is, sym (ap (λ (s : Step). s.lease) is) ∙ ap (λ (s : Step). lease_for c s.time) is)
 step_is c (Err d) step e = absurd cc
 
-served_is : (c : ClockState) (reading floor : ℕ) (tick : Bool) (step : Step) → served c reading floor tick ≡ Ok step → IsServed c reading floor tick step
+pub served_is : (c : ClockState) (reading floor : ℕ) (tick : Bool) (step : Step) → served c reading floor tick ≡ Ok step → IsServed c reading floor tick step
 served_is c reading floor tick step e =
     elim (chosen (holds c.until c.given reading) (Err (LeaseHeld (or_zero c.until))) (step_of c (clock_time (kind_of tick) c.last floor reading)) (Ok step) e) [
       | inl a ↦ absurd cc

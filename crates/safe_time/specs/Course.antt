@@ -1,5 +1,6 @@
--- What may befall a clock and the log under it, one thing after another, and which times count in the end.
-use Rattle.std.specs.Prelude.{◌≡◌, ℕ, ◌<◌, ◌≤◌, Bool, true, false, List, [], ◌∷◌, Option, Some, None, Result, Ok, Err}
+-- Any sequence of steps of a clock, of appends that fail and of restarts, and which times count in the end. A load that
+-- fails changes nothing here: the actor is down, and stays so.
+use Rattle.std.specs.Prelude.{ℕ, ◌<◌, ◌≤◌, Bool, true, false, List, [], ◌∷◌, Option, Some, None, Result, Ok, Err}
 use Rattle.hybrid_time.specs.Time.{micros_of}
 use Rattle.txn_types.specs.Lists.{or_else}
 use Rattle.safe_time.specs.declared.step.Step.{Step}
@@ -7,9 +8,9 @@ use Rattle.safe_time.specs.declared.clock_refusal.ClockRefusal.{ClockRefusal}
 use Rattle.safe_time.specs.ActorClock.{ClockState, at_first, served, taken, restarted}
 
 pub data Happening : Type 0 where
-  -- a step is served, and the log takes what it logs
+  -- an action takes a time, and the log takes what it logs, or there is nothing to log
   Takes : (reading floor : ℕ) (tick : Bool) → Happening
-  -- a step is served, and its append fails
+  -- an action takes a time, and its append fails
   Fails : (reading floor : ℕ) (tick : Bool) → Happening
   -- a restart loads the log, which kept the failed piece or lost it
   Restarts : (kept : Bool) → Happening

@@ -13,7 +13,9 @@ mod step;
 
 pub use actor_clock::ActorClock;
 pub use clock_refusal::ClockRefusal;
-pub use laws::{it_is_the_clock_of_the_tables, times_are_leased, times_rise};
+pub use laws::{
+    entries_move_the_clock, it_is_the_clock_of_the_tables, times_are_leased, times_rise,
+};
 pub use step::Step;
 
 #[cfg(test)]

@@ -1,7 +1,7 @@
 -- Frames: what begins with one, and that bytes are one list of them.
-use Rattle.std.proofs.Common.{◌≡◌, ℕ, ◌+◌, ◌^◌, ◌<◌, ◌≤◌, IsTrue, List, [], ◌∷◌, ◌++◌, length, take, drop, Result, Ok, Err, refl, sym, ap, subst, ◌∙◌, append_assoc, arith, inl, inr}
-use Rattle.std.specs.List.{AllByRecursion, flat_map}
-use Rattle.std.specs.Int.{w32, from_be_bytes, to_be_bytes}
+use Rattle.std.proofs.Common.{◌≡◌, ℕ, ◌^◌, ◌<◌, ◌≤◌, IsTrue, List, [], ◌∷◌, ◌++◌, length, take, drop, Ok, Err, refl, sym, ap, ◌∙◌, append_assoc, arith, inl, inr}
+use Rattle.std.specs.List.{AllByRecursion}
+use Rattle.std.specs.Int.{w32, from_be_bytes}
 use Rattle.std.proofs.lemmas.Bool.{cases_lt}
 use Rattle.std.proofs.lemmas.Grind.{flat_map-append}
 use Rattle.std.proofs.lemmas.List.{get_or_past, take_at, drop_at, take-append-drop, length-append, append-nil, length-take, length-take-le, get_or-take}
@@ -10,7 +10,7 @@ use Rattle.log_record.specs.declared.log_record.LogRecord.{LogRecord}
 use Rattle.log_record.specs.declared.record_refusal.RecordRefusal.{RecordRefusal}
 use Rattle.log_record.specs.declared.record_refusal.RecordRefusal.TheVariants as refusal
 use Rattle.log_record.specs.Spelling.{u32_spelling, spelling, has_spelling, IsInRange, Spells}
-use Rattle.log_record.specs.Reading.{Gives, Fails, IsBytes}
+use Rattle.log_record.specs.Reading.{Fails, IsBytes}
 use Rattle.tablet_log.specs.Frames.{frame, frames, IsRecord, NoFrame, Holds, IsBroken, IsUnread}
 use Rattle.tablet_log.specs.Refusals.{unread}
 

@@ -13,7 +13,7 @@ use Rattle.txn_data.specs.declared.version.Version.{Version}
 use Rattle.txn_data.specs.declared.event.Event.{Event}
 use Rattle.txn_data.specs.declared.event.Event.TheVariants.{Start, Ask, Serve, Hear, Tell, Restarted}
 use Rattle.txn_data.specs.declared.entry.Entry.{Entry}
-use Rattle.txn_types.specs.History.{History, counting, was_logged, standing}
+use Rattle.txn_types.specs.History.{History, counting, was_logged}
 use Rattle.txn_types.specs.Clock.{lease_due, lease_with, lease_over, lease_end}
 use Rattle.txn_types.specs.Clock as clock
 use Rattle.txn_types.specs.Tablet.{Intent, provisional_after, provisional_over, provisional, versions_over, versions}

@@ -1,5 +1,5 @@
 -- What one more entry of an actor does to the records that stand in its log.
-use Rattle.std.proofs.Common.{◌≡◌, ℕ, Bool, true, false, cond, List, [], ◌∷◌, ◌++◌, Option, Some, None, refl, sym, ap, ◌∙◌}
+use Rattle.std.proofs.Common.{◌≡◌, ℕ, Bool, true, false, cond, List, [], ◌∷◌, ◌++◌, Option, refl, ap}
 use Rattle.txn_data.specs.declared.actor.Actor.{Actor}
 use Rattle.txn_data.specs.declared.append.Append.{Append}
 use Rattle.txn_data.specs.declared.append.Append.TheVariants.{Nothing, Took, Failed}
@@ -7,8 +7,8 @@ use Rattle.txn_data.specs.declared.request.Request.{Request}
 use Rattle.txn_data.specs.declared.reply.Reply.{Reply}
 use Rattle.txn_data.specs.declared.event.Event.TheVariants.{Serve}
 use Rattle.txn_data.specs.declared.entry.Entry.{Entry}
-use Rattle.txn_types.specs.History.{History, same_actor, kept_by, event_counts, next_restart_kept, counting_before, counting}
-use Rattle.txn_types.specs.Clock.{lease_over, lease_end}
+use Rattle.txn_types.specs.History.{History, same_actor, kept_by, next_restart_kept, counting_before, counting}
+use Rattle.txn_types.specs.Clock.{lease_end}
 use Rattle.tablet_log.specs.Entries.{records_of, logged_over, logged_records, failed_records}
 
 abbrev serve : Actor → Option ℕ → Actor → Request → Reply → Option ℕ → Append → Entry

@@ -7,7 +7,6 @@ use Rattle.txn_data.specs.declared.request.Request.{Request}
 use Rattle.txn_data.specs.declared.request.Request.TheVariants as request
 use Rattle.txn_data.specs.declared.event.Event.{Event}
 use Rattle.txn_data.specs.declared.event.Event.TheVariants.{Serve, Restarted}
-use Rattle.txn_data.specs.declared.entry.Entry.{Entry}
 use Rattle.txn_types.specs.History.{History, counting}
 use Rattle.txn_types.specs.Clock.{lease_due, lease_over, lease_end}
 use Rattle.log_record.specs.declared.log_record.LogRecord.{LogRecord}

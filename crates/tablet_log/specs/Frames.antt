@@ -1,6 +1,6 @@
 -- The bytes of a log: the frames of its records, one after another.
 use Rattle.std.specs.Prelude.{◌≡◌, ℕ, IsTrue, List, [], ◌++◌, length}
-use Rattle.std.specs.List.{flat_map, list_all, AllByRecursion}
+use Rattle.std.specs.List.{flat_map, AllByRecursion}
 use Rattle.log_record.specs.declared.log_record.LogRecord.{LogRecord}
 use Rattle.tablet_log.specs.declared.replay_refusal.ReplayRefusal.{ReplayRefusal}
 use Rattle.tablet_log.specs.declared.replay_refusal.ReplayRefusal.TheVariants.{LogFault, LogBad, Memory}

@@ -1,4 +1,8 @@
 //! Logs worked by hand.
+ghost use Rattle.std.specs.Prelude.{◌≡◌};
+ghost use Rattle.std.specs.List.{list_all};
+ghost use Rattle.log_record.specs.Spelling.{has_spelling};
+
 use super::*;
 use doc_path::Path;
 use docdb_base::{Memory, Seq};
@@ -20,10 +24,15 @@ const BYTES: [u8; 66] = [
     0x01, 0x00, 0x00, 0x00, 0x09, 0x49, 0x80, 0x00, 0x00, 0x00, 0x00, 0x00, 0x00, 0x01,
 ];
 
-fn records(alloc: Global) -> Result<Vec<LogRecord>, Memory> {
-    let value = b"\x49\x80\0\0\0\0\0\0\x01".as_slice().to_vec(alloc)?;
+fn lease(alloc: Global) -> Result<Vec<LogRecord>, Memory> {
     let mut records = Vec::new(alloc);
     records.push(LogRecord::Lease { until: 3_000_000 })?;
+    Ok(records)
+}
+
+fn records(alloc: Global) -> Result<Vec<LogRecord>, Memory> {
+    let value = b"\x49\x80\0\0\0\0\0\0\x01".as_slice().to_vec(alloc)?;
+    let mut records = lease(alloc)?;
     records.push(LogRecord::Single {
         txn: TxnId {
             number: (1 << 64) + 1,
@@ -35,6 +44,35 @@ fn records(alloc: Global) -> Result<Vec<LogRecord>, Memory> {
     Ok(records)
 }
 
+fn is_spelled(logged: &LogRecord) -> bool
+    ensures { result ≡ has_spelling logged.now }
+{
+    logged.has_spelling()
+}
+
+fn are_spelled(records: &[LogRecord]) -> bool
+    ensures { result ≡ list_all has_spelling records.now }
+{
+    records.iter().all(is_spelled)
+}
+
+fn framed(rt: &impl Abort, alloc: Global, records: &[LogRecord]) -> Result<Vec<u8>, Memory> {
+    let spelled = are_spelled(records);
+    assert!(rt; spelled);
+    frames(alloc, records)
+}
+
+fn appended(
+    rt: &impl Abort,
+    log: &mut MemLog,
+    alloc: Global,
+    records: &[LogRecord],
+) -> Result<(), LogRefusal> {
+    let spelled = are_spelled(records);
+    assert!(rt; spelled);
+    append(log, alloc, records)
+}
+
 /// What `replay` answers: the number of records, whose frames are the bytes again, or the refusal.
 fn replayed(
     rt: &impl Abort,
@@ -43,8 +81,7 @@ fn replayed(
 ) -> Result<Result<usize, ReplayRefusal>, Fail> {
     match replay(log, alloc) {
         Ok(records) => {
-            assert!(rt; records.iter().all(LogRecord::has_spelling));
-            let again = frames(alloc, &records)?;
+            let again = framed(rt, alloc, &records)?;
             assert_eq!(rt; again.as_slice(), log.held());
             Ok(Ok(records.len()))
         }
@@ -56,13 +93,13 @@ fn replayed(
 fn two_records(rt: HostRuntime) -> Result<(), Fail> {
     let alloc = rt.alloc();
     let records = records(alloc)?;
-    assert_eq!(rt; frames(alloc, &records)?.as_slice(), BYTES.as_slice());
+    assert_eq!(rt; framed(&rt, alloc, &records)?.as_slice(), BYTES.as_slice());
     let mut log = MemLog::of(Vec::new(alloc), Vec::new(alloc));
-    assert_eq!(rt; append(&mut log, alloc, &records), Ok(()));
+    assert_eq!(rt; appended(&rt, &mut log, alloc, &records), Ok(()));
     assert_eq!(rt; log.held(), BYTES.as_slice());
-    assert_eq!(rt; append(&mut log, alloc, &records[..1]), Ok(()));
+    assert_eq!(rt; appended(&rt, &mut log, alloc, &lease(alloc)?), Ok(()));
     assert_eq!(rt; log.held().len(), 79);
-    assert_eq!(rt; append(&mut log, alloc, &[]), Ok(()));
+    assert_eq!(rt; appended(&rt, &mut log, alloc, &[]), Ok(()));
     assert_eq!(rt; replayed(&rt, &mut log, alloc)?, Ok(3));
     Ok(())
 }
@@ -101,9 +138,12 @@ fn replays_by_hand(rt: HostRuntime) -> Result<(), Fail> {
             Err(ReplayRefusal::LogBad { offset: 13 }),
         ),
     ] {
-        let mut bytes = BYTES[..len].to_vec(alloc)?;
+        let mut bytes = Vec::from_slice(alloc, &BYTES)?;
+        bytes.truncate(len);
         if let Some((at, byte)) = changed {
-            bytes[at] = byte;
+            if let Some(changed) = bytes.get_mut(at) {
+                *changed = byte;
+            }
         }
         let mut log = MemLog::of(bytes, Vec::new(alloc));
         assert_eq!(rt;
@@ -128,10 +168,10 @@ fn faults(rt: HostRuntime) -> Result<(), Fail> {
         let fails = [FailAt { call: 1, kept }, unread].as_slice().to_vec(alloc)?;
         let mut log = MemLog::of(Vec::new(alloc), fails);
         assert_eq!(rt;
-            append(&mut log, alloc, &records),
+            appended(&rt, &mut log, alloc, &records),
             Err(LogRefusal::LogFault)
         );
-        assert_eq!(rt; append(&mut log, alloc, &records[..1]), Ok(()));
+        assert_eq!(rt; appended(&rt, &mut log, alloc, &lease(alloc)?), Ok(()));
         assert_eq!(rt; log.held().len(), held);
         assert_eq!(rt;
             replayed(&rt, &mut log, alloc)?,

@@ -1,4 +1,4 @@
-use Rattle.std.proofs.Common.{◌≡◌, ◌∙◌, ◌<◌, ◌≤◌, ◌++◌, ℕ, List, length, take, drop, refl, ap, sym, subst, arith}
+use Rattle.std.proofs.Common.{◌≡◌, ◌∙◌, ◌++◌, ℕ, List, length, take, drop, refl, ap, sym, subst, arith}
 use Rattle.log_record.specs.Spelling.{Spells}
 use Rattle.tablet_log.specs.Frames.{frame}
 use Rattle.tablet_log.proofs.Framed.{none_short, none_cut, one_read, unread_is}

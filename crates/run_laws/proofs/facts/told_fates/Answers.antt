@@ -1,0 +1,5 @@
+use Rattle.run_fates.proofs.Runs.{told_committed, told_aborted}
+use Rattle.run_laws.proofs.facts.told_fates.Goals as goal
+
+pub returns : goal.returns
+returns c = record { committed = told_committed; aborted = told_aborted }

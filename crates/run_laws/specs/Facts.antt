@@ -1,0 +1,41 @@
+-- The facts on which what a read has to answer rests, each over every cluster and every history that is a run.
+use Rattle.run_clocks.specs.Laws.{TimesRise, TimesKeepFloors, CountsForGood, LeasesCover, LastIsGreatest, ListingsReach, ListingsPromise}
+use Rattle.run_owners.specs.Laws.{PendingIsKept}
+use Rattle.run_fates.specs.Laws.{CommitsOnce, ToldCommittedIs, ToldAbortedNeverCommits, PendingCommitsAbove}
+use Rattle.run_sessions.specs.Laws.{WritesAreBegun, NoWriteAfterEnd, CommitsCover, CommitsAboveWrites}
+
+-- times and leases: no counting time is above the last time of its machine once that gave one since its restart, and the
+-- lease covers it always; so each time is past all earlier ones that count
+pub record TimesAndLeases : Type 0 where
+  pub rise : TimesRise
+  pub floors : TimesKeepFloors
+  pub counts : CountsForGood
+  pub covered : LeasesCover
+  pub greatest : LastIsGreatest
+
+-- what Pending promises: a later commit is above the time that was asked about, and so is the commit, whenever it comes
+pub record PendingPromise : Type 0 where
+  pub later : PendingIsKept
+  pub whenever : PendingCommitsAbove
+
+-- a transaction commits once, above all its writes and above the time that each read at; one with a write whose append
+-- failed never does
+pub record CommitTimes : Type 0 where
+  pub once : CommitsOnce
+  pub above : CommitsAboveWrites
+
+-- what is told of a transaction is so
+pub record ToldFates : Type 0 where
+  pub committed : ToldCommittedIs
+  pub aborted : ToldAbortedNeverCommits
+
+-- a session's own order: a transaction writes only after its Begin and before its end, and its commit covers what it wrote
+pub record SessionOrder : Type 0 where
+  pub begun : WritesAreBegun
+  pub ended : NoWriteAfterEnd
+  pub covered : CommitsCover
+
+-- what a listing read promises of earlier and of later writes
+pub record ListingPromise : Type 0 where
+  pub reached : ListingsReach
+  pub later : ListingsPromise

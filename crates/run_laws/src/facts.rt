@@ -1,0 +1,32 @@
+//! The facts on which what a read has to answer rests. A call does nothing.
+ghost use Rattle.run_laws.specs.Facts.{TimesAndLeases, PendingPromise, CommitTimes, ToldFates, SessionOrder, ListingPromise};
+
+/// Times rise over restarts, and with failed appends that a log kept or lost; leases cover them.
+pub fn times_and_leases()
+    ensures { TimesAndLeases }
+{}
+
+/// A transaction that was told Pending to a question at a time commits above it, if it does.
+pub fn pending_promise()
+    ensures { PendingPromise }
+{}
+
+/// A transaction commits once, above all its writes and above the time that each of them read at.
+pub fn commit_times()
+    ensures { CommitTimes }
+{}
+
+/// What is told Committed is committed at that time, and what is told Aborted never commits.
+pub fn told_fates()
+    ensures { ToldFates }
+{}
+
+/// A transaction writes after its Begin and before its end, and its commit covers what it wrote.
+pub fn session_order()
+    ensures { SessionOrder }
+{}
+
+/// After a tablet listed for a read, it writes only above the read's time.
+pub fn listing_promise()
+    ensures { ListingPromise }
+{}
