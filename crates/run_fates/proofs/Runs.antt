@@ -152,7 +152,7 @@ life_at config x h before e run stands =
     let up_to : Steps config (e ∷ before) = steps_at config e before h run.1 stands in
     (run.0, up_to.0)
 
-record_before : (config : Config) (x : ℕ) (before : History) → Run config before → RecordIs (record_of x (own (Status (home_of config x)) before)) (life x (home_log config x before))
+pub record_before : (config : Config) (x : ℕ) (before : History) → Run config before → RecordIs (record_of x (own (Status (home_of config x)) before)) (life x (home_log config x before))
 record_before config x before run =
     let a = Status (home_of config x) in
     subst (λ (l : History). RecordIs (record_of x (own a before)) (life x l)) (standing_landed config.lease_us a (own a before) (serves_own config a before run.1) (own_all a before))
@@ -168,7 +168,7 @@ told_in config h e x f run m tells =
     subst (λ (b : Actor). ServesNext config.lease_us b (own b place.0) e.reading e.event) home (serves_at config e place.0 h run.1 place.1) in
     (place.0, place.1, home, told_at config.lease_us (home_of config x) (own (Status (home_of config x)) place.0) e.reading x e.event f served tells)
 
-grown : (config : Config) (x : ℕ) (h before : History) (e : Entry) → e.actor ≡ Status (home_of config x) → StandsOver e before h → IsNotBefore (life x (home_log config x before)) (life x (home_log config x h))
+pub grown : (config : Config) (x : ℕ) (h before : History) (e : Entry) → e.actor ≡ Status (home_of config x) → StandsOver e before h → IsNotBefore (life x (home_log config x before)) (life x (home_log config x h))
 grown config x h before e home stands =
     let a = Status (home_of config x) in
     life_grows x (home_log config x before) (home_log config x h) (grows_over e (own a before) (own a h) (stands_own a e before h home stands))

@@ -1,5 +1,5 @@
 -- Histories that are no runs, whatever stands before: each breaks one fact.
-use Rattle.std.proofs.Common.{ℕ, [], ◌∷◌, Some, None, refl, inl, arith}
+use Rattle.std.proofs.Common.{◌≡◌, ℕ, [], ◌∷◌, Some, None, refl, inl, arith}
 use Rattle.doc_path.specs.Path.{Parts}
 use Rattle.txn_data.specs.declared.actor.Actor.TheVariants.{Tablet, Status, Session, Applier}
 use Rattle.txn_data.specs.declared.append.Append.TheVariants.{Nothing, Took}
@@ -17,7 +17,9 @@ use Rattle.txn_types.specs.History.{History}
 use Rattle.txn_types.specs.Run.{Run}
 use Rattle.run_clocks.proofs.Runs.{times_keep_floors, listings_promise}
 use Rattle.run_owners.proofs.Runs.{pending_kept}
+use Rattle.run_fates.proofs.Runs.{told_committed, commits_once}
 use Rattle.run_sessions.proofs.Runs.{no_write_after, commits_cover}
+use Rattle.run_heard.proofs.Runs.{run_until, applies_committed}
 
 -- the first transaction of session 1
 abbrev x : ℕ
@@ -78,3 +80,19 @@ write_below_listing : (config : Config) (h : History) → Run config (writes 10 
 write_below_listing config h run =
     let p = listings_promise config (writes 10 ∷ lists 10 10 ∷ h) (lists 10 10 ∷ h) (lists 10 10) (writes 10) 10 100 None 10 10 run (inl (refl, refl)) (inl refl) refl (refl, refl, refl, refl) tt refl in
     let lt = p.0 in omega (arith, lt)
+
+-- an applier is told that it is committed at this time
+abbrev told : ℕ → Entry
+told c = at_status (Serve (Applier 0) (request.AskFate x 20) (reply.FateIs (fate.Committed c)) (Some 20) Nothing)
+
+-- a tablet is asked to apply it at this time
+abbrev applies : ℕ → Entry
+applies c = at_tablet (Serve (Applier 0) (request.Apply x c) reply.AppliedHere (Some c) Took)
+
+-- an apply at another time than that of the commit, as that of the write
+applied_elsewhen : (config : Config) (h : History) → Run config (applies 5 ∷ told 9 ∷ h) → ⊥
+applied_elsewhen config h run =
+    let until = run_until config (applies 5 ∷ told 9 ∷ h) (told 9 ∷ h) (applies 5) run (inl (refl, refl)) in
+    let was = applies_committed config (applies 5 ∷ told 9 ∷ h) (told 9 ∷ h) (applies 5) x 5 run (inl (refl, refl)) (refl, refl) in
+    let same : 5 ≡ 9 = commits_once config (told 9 ∷ h) x 5 9 until was (told_committed config (told 9 ∷ h) (told 9) x 9 until (inl refl) (refl, refl)) in
+    omega (arith, same)

@@ -3,6 +3,9 @@ use Rattle.run_clocks.specs.Laws.{TimesRise, TimesKeepFloors, CountsForGood, Lea
 use Rattle.run_owners.specs.Laws.{PendingIsKept}
 use Rattle.run_fates.specs.Laws.{CommitsOnce, ToldCommittedIs, ToldAbortedNeverCommits, PendingCommitsAbove}
 use Rattle.run_sessions.specs.Laws.{WritesAreBegun, NoWriteAfterEnd, CommitsCover, CommitsAboveWrites}
+use Rattle.run_tablets.specs.Laws.{AppliedStaysApplied}
+use Rattle.run_forgotten.specs.Laws.{ToldAbsentIsForgotten}
+use Rattle.run_kept.specs.Laws.{CommittedIsKept, CommittedIsRecorded}
 
 -- times and leases: no counting time is above the last time of its machine once that gave one since its restart, and the
 -- lease covers it always; so each time is past all earlier ones that count
@@ -39,3 +42,11 @@ pub record SessionOrder : Type 0 where
 pub record ListingPromise : Type 0 where
   pub reached : ListingsReach
   pub later : ListingsPromise
+
+-- the writes of a committed transaction: each is provisional at its tablet or a version there with the commit time; while
+-- something of it is provisional its record is there; and once applied nothing of it is provisional again
+pub record CommittedWrites : Type 0 where
+  pub kept : CommittedIsKept
+  pub recorded : CommittedIsRecorded
+  pub applied : AppliedStaysApplied
+  pub forgotten : ToldAbsentIsForgotten

@@ -1,5 +1,5 @@
 //! The facts on which what a read has to answer rests. A call does nothing.
-ghost use Rattle.run_laws.specs.Facts.{TimesAndLeases, PendingPromise, CommitTimes, ToldFates, SessionOrder, ListingPromise};
+ghost use Rattle.run_laws.specs.Facts.{TimesAndLeases, PendingPromise, CommitTimes, ToldFates, SessionOrder, ListingPromise, CommittedWrites};
 
 /// Times rise over restarts, and with failed appends that a log kept or lost; leases cover them.
 pub fn times_and_leases()
@@ -29,4 +29,10 @@ pub fn session_order()
 /// After a tablet listed for a read, it writes only above the read's time.
 pub fn listing_promise()
     ensures { ListingPromise }
+{}
+
+/// Each write of a committed transaction is provisional at its tablet, with its record there, or a version with the commit
+/// time; once applied, it is not provisional again.
+pub fn committed_writes()
+    ensures { CommittedWrites }
 {}

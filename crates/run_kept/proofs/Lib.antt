@@ -1,0 +1,4 @@
+pub mod Versions
+pub mod Landing
+pub mod Kept
+pub mod Recorded

@@ -1,0 +1,4 @@
+pub mod Listed
+pub mod Passes
+pub mod Commands
+pub mod Runs
