@@ -20,7 +20,7 @@ use Rattle.txn_data.specs.declared.entry.Entry.{Entry}
 use Rattle.txn_types.specs.Lists.{Member, or_zero}
 use Rattle.txn_types.specs.History.{History, own, same_actor, was_logged, standing}
 use Rattle.txn_types.specs.Clock.{Answer, logged as logs_answer, down_since}
-use Rattle.txn_types.specs.Tablet.{Intent, is_of, has_any, provisional, provisional_over, provisional_after, versions_over, tablet_up, tablet_standing}
+use Rattle.txn_types.specs.Tablet.{Intent, is_of, has_any, provisional, provisional_over, provisional_after, versions, versions_over, tablet_up, tablet_standing}
 use Rattle.txn_types.specs.Run.{Run, Serves}
 use Rattle.run_machines.specs.Own.{landed, StandsOver, ServesNext}
 use Rattle.run_machines.proofs.Basics.{same_cases, same_true, eq_true, member_cases, filter_member, member_filter}
@@ -161,7 +161,7 @@ write_not_commit x tablets event write form = subst (λ (ev : Event). IsWriteOf 
 own_actor : (a : Actor) (e : Entry) (h : History) → Member e (own a h) → e.actor ≡ a
 own_actor a e h m = same_true e.actor a (filter_member (λ (f : Entry). same_actor f.actor a) e h m).1
 
-forgotten_later : (before b : History) (j : Entry) (x c : ℕ) → StandsOver j b before → IsForgotten b x c → IsForgotten before x c
+pub forgotten_later : (before b : History) (j : Entry) (x c : ℕ) → StandsOver j b before → IsForgotten b x c → IsForgotten before x c
 forgotten_later before b j x c stands gone = record {
   entry = gone.entry;
   tablets = gone.tablets;
@@ -211,14 +211,19 @@ keeps_event x c (Serve from (request.Apply y at) r time append) applies cleans =
 keeps_event x c (Serve from (request.Clean y) r time append) applies cleans = cleans
 keeps_event x c event applies cleans = tt
 
-all_kept : (config : Config) (h : History) (k x c : ℕ) → Run config h → CommittedAt h x c → AllKept x c (logged (landed (own (Tablet k) h)))
-all_kept config h k x c run committed =
+-- of a transaction that is committed in the end, over each history before
+abbrev Within : History → History → Type 0
+Within before h = (e : Entry) (first : History) → StandsOver e first before → StandsOver e first h
+
+all_kept : (config : Config) (h before : History) (k x c : ℕ) → Run config h → Within before h → CommittedAt h x c → AllKept x c (logged (landed (own (Tablet k) before)))
+all_kept config h before k x c run within committed =
     let a = Tablet k in
-    (since_all (AllKept x c) (Keeps x c) (kept_lands x c) (own a h) (λ e m. absurd m) (λ e first there logs.
-    let up = own_stands a e first h there in
-    let at = own_actor a e h (stands_member e first (own a h) there) in
-    keeps_event x c e.event (λ time applies. apply_time config h up.0 e x time c run up.1 applies committed)
-    (λ cleans. clean_never config h up.0 e x c k run up.1 at logs cleans committed))).now
+    (since_all (AllKept x c) (Keeps x c) (kept_lands x c) (own a before) (λ e m. absurd m) (λ e first there logs.
+    let up = own_stands a e first before there in
+    let stands = within e up.0 up.1 in
+    let at = own_actor a e before (stands_member e first (own a before) there) in
+    keeps_event x c e.event (λ time applies. apply_time config h up.0 e x time c run stands applies committed)
+    (λ cleans. clean_never config h up.0 e x c k run stands at logs cleans committed))).now
 
 took_of : (w : ℕ) (time : Option ℕ) (append : Append) → Written (reply.Written w) time append → append ≡ Took
 took_of w time append (Accepted v is at took) = took
@@ -232,21 +237,33 @@ written_event lease k o reading m meta number path op read seen fates w append s
     let took = took_of w (Some w) append (written lease (Tablet k) o reading meta number path op read seen fates (reply.Written w) (Some w) append served) in
     subst (λ (b : Append). WasServed (Serve m (request.Write meta number path op read seen fates) (reply.Written w) (Some w) b) × (was_logged (Serve m (request.Write meta number path op read seen fates) (reply.Written w) (Some w) b) ≡ true)) (sym took) (tt, refl)
 
-pub committed_kept : CommittedIsKept
-committed_kept config h e k c number w read seen m meta path op fates append run member at is committed =
+kept_within : (config : Config) (h before : History) (e : Entry) (k c number w read seen : ℕ) (m : Actor) (meta : Meta) (path : Parts) (op : Op) (fates : List FateOf) (append : Append) →
+    Run config h → Run config before → Within before h → Member e before → e.actor ≡ Tablet k → e.event ≡ Serve m (request.Write meta number path op read seen fates) (reply.Written w) (Some w) append → CommittedAt h meta.txn c →
+    IsKept (record { meta = meta; number = number; path = path; op = op; wrote = w }) c (provisional (own (Tablet k) before)) (versions (own (Tablet k) before))
+kept_within config h before e k c number w read seen m meta path op fates append run until within member at is committed =
     let a = Tablet k in
-    let o = own a h in
+    let o = own a before in
     let p : Intent = record { meta = meta; number = number; path = path; op = op; wrote = w } in
-    let event = Serve m (request.Write meta number path op read seen fates) (reply.Written w) (Some w) append in
-    let place = member_stands e h member in
+    let place = member_stands e before member in
     let served : ServesNext config.lease_us a (own a place.0) e.reading (Serve m (request.Write meta number path op read seen fates) (reply.Written w) (Some w) append) =
-    subst (λ (ev : Event). ServesNext config.lease_us a (own a place.0) e.reading ev) is (subst (λ (d : Actor). ServesNext config.lease_us d (own d place.0) e.reading e.event) at (serves_at config e place.0 h run.1 place.1)) in
+    subst (λ (ev : Event). ServesNext config.lease_us a (own a place.0) e.reading ev) is (subst (λ (d : Actor). ServesNext config.lease_us d (own d place.0) e.reading e.event) at (serves_at config e place.0 before until.1 place.1)) in
     let was = written_event config.lease_us k (own a place.0) e.reading m meta number path op read seen fates w append served in
     let served_e : WasServed e.event = subst (λ (ev : Event). WasServed ev) (sym is) was.0 in
     let logs_e : was_logged e.event ≡ true = subst (λ (ev : Event). was_logged ev ≡ true) (sym is) was.1 in
-    let counts : Member e (counted false o) = counts_served e false o (member_own e a h at member) served_e in
-    let stands = standing_landed config.lease_us a o (serves_own config a h run.1) (own_all a h) in
+    let counts : Member e (counted false o) = counts_served e false o (member_own e a before at member) served_e in
+    let stands = standing_landed config.lease_us a o (serves_own config a before until.1) (own_all a before) in
     let in_log : Member e (logged (landed o)) =
-    subst (λ (l : History). Member e l) stands (subst (λ (l : History). Member e (logged l)) (sym (counting_own a o (own_all a h))) (member_filter (λ (f : Entry). was_logged f.event) e (counted false o) counts logs_e)) in
+    subst (λ (l : History). Member e l) stands (subst (λ (l : History). Member e (logged l)) (sym (counting_own a o (own_all a before))) (member_filter (λ (f : Entry). was_logged f.event) e (counted false o) counts logs_e)) in
     let makes : Makes meta.txn p e.event = subst (λ (ev : Event). Makes meta.txn p ev) (sym is) (refl, refl) in
-    subst (λ (l : History). IsKept p c (provisional_over l) (versions_over l)) (sym stands) (all_kept config h k meta.txn c run committed e in_log p makes)
+    subst (λ (l : History). IsKept p c (provisional_over l) (versions_over l)) (sym stands) (all_kept config h before k meta.txn c run within committed e in_log p makes)
+
+pub committed_kept : CommittedIsKept
+committed_kept config h e k c number w read seen m meta path op fates append run member at is committed =
+    kept_within config h h e k c number w read seen m meta path op fates append run run (λ f first there. there) member at is committed
+
+-- and so it is wherever another entry stands, though it may commit only later
+pub kept_before : (config : Config) (h before : History) (f e : Entry) (k c number w read seen : ℕ) (m : Actor) (meta : Meta) (path : Parts) (op : Op) (fates : List FateOf) (append : Append) →
+    Run config h → StandsOver f before h → Member e before → e.actor ≡ Tablet k → e.event ≡ Serve m (request.Write meta number path op read seen fates) (reply.Written w) (Some w) append → CommittedAt h meta.txn c →
+    IsKept (record { meta = meta; number = number; path = path; op = op; wrote = w }) c (provisional (own (Tablet k) before)) (versions (own (Tablet k) before))
+kept_before config h before f e k c number w read seen m meta path op fates append run stands member at is committed =
+    kept_within config h before e k c number w read seen m meta path op fates append run (run_until config h before f run stands) (λ g first there. stands_trans g f first before h there stands) member at is committed

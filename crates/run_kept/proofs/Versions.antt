@@ -11,7 +11,7 @@ use Rattle.run_machines.proofs.Basics.{eq_true}
 abbrev pub HasVersion : Parts → ℕ → List Version → Type 0
 HasVersion path c vs = (v : Version) × Member v vs × (v.path ≡ path) × (v.at ≡ c)
 
-bytes_same : (a b : List ℕ) → bytes_eq a b ≡ true → a ≡ b
+pub bytes_same : (a b : List ℕ) → bytes_eq a b ≡ true → a ≡ b
 bytes_same [] [] is = refl
 bytes_same [] (b ∷ bs) is = cc
 bytes_same (a ∷ rest) [] is = cc
@@ -39,7 +39,7 @@ new_choice : (b : Bool) (u v : Version) (us : List Version) → Member v (with_v
 new_choice true u v us m = inl refl
 new_choice false u v us m = inr m
 
-with_new : (us : List Version) (v : Version) → Member v (with_version us v)
+pub with_new : (us : List Version) (v : Version) → Member v (with_version us v)
 unfolding with_version
 with_new [] v = inl refl
 with_new (u ∷ us) v = new_choice (same_place u v) u v us (with_new us v)

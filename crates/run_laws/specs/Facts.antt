@@ -6,6 +6,10 @@ use Rattle.run_sessions.specs.Laws.{WritesAreBegun, NoWriteAfterEnd, CommitsCove
 use Rattle.run_tablets.specs.Laws.{AppliedStaysApplied}
 use Rattle.run_forgotten.specs.Laws.{ToldAbsentIsForgotten}
 use Rattle.run_kept.specs.Laws.{CommittedIsKept, CommittedIsRecorded}
+use Rattle.run_resolved.specs.Laws.{FatesAreOfBegun}
+use Rattle.run_places.specs.Laws.{WritesArePlaced}
+use Rattle.run_order.specs.Laws.{RelatedWritesAreInOrder}
+use Rattle.run_related.specs.Laws.{RelatedCommitsDiffer, RelatedCommitsReadAbove}
 
 -- times and leases: no counting time is above the last time of its machine once that gave one since its restart, and the
 -- lease covers it always; so each time is past all earlier ones that count
@@ -50,3 +54,13 @@ pub record CommittedWrites : Type 0 where
   pub recorded : CommittedIsRecorded
   pub applied : AppliedStaysApplied
   pub forgotten : ToldAbsentIsForgotten
+
+-- related writes: at a tablet they are committed in the order in which it took them; over all tablets, where the lines name
+-- one tablet for each first part of a path, they never have one commit time, and a write of the one snapshot transaction
+-- read not below the commit of the other
+pub record RelatedWrites : Type 0 where
+  pub resolved : FatesAreOfBegun
+  pub placed : WritesArePlaced
+  pub ordered : RelatedWritesAreInOrder
+  pub differ : RelatedCommitsDiffer
+  pub read : RelatedCommitsReadAbove

@@ -1,5 +1,5 @@
 //! The facts on which what a read has to answer rests. A call does nothing.
-ghost use Rattle.run_laws.specs.Facts.{TimesAndLeases, PendingPromise, CommitTimes, ToldFates, SessionOrder, ListingPromise, CommittedWrites};
+ghost use Rattle.run_laws.specs.Facts.{TimesAndLeases, PendingPromise, CommitTimes, ToldFates, SessionOrder, ListingPromise, CommittedWrites, RelatedWrites};
 
 /// Times rise over restarts, and with failed appends that a log kept or lost; leases cover them.
 pub fn times_and_leases()
@@ -35,4 +35,10 @@ pub fn listing_promise()
 /// time; once applied, it is not provisional again.
 pub fn committed_writes()
     ensures { CommittedWrites }
+{}
+
+/// Related writes are committed in the order in which their tablet took them, so two committed transactions with related
+/// writes never have one commit time.
+pub fn related_writes()
+    ensures { RelatedWrites }
 {}

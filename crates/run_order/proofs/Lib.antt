@@ -1,0 +1,4 @@
+pub mod Found
+pub mod Asked
+pub mod Singles
+pub mod Order

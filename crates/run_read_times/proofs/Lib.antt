@@ -1,0 +1,4 @@
+pub mod Above
+pub mod Holds
+pub mod Told
+pub mod Runs

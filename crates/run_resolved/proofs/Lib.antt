@@ -1,0 +1,4 @@
+pub mod Listed
+pub mod Resolved
+pub mod Commands
+pub mod Runs
