@@ -6,9 +6,11 @@
 
 pub mod laws;
 mod path;
+mod path_part;
 mod path_refusal;
 #[cfg(test)]
 mod tests;
 
 pub use path::Path;
+pub use path_part::PathPart;
 pub use path_refusal::PathRefusal;

@@ -46,6 +46,19 @@ fn compares(rt: HostRuntime) -> Result<(), Fail> {
 }
 
 #[test]
+fn lends_its_parts(rt: HostRuntime) -> Result<(), Fail> {
+    let whole = path(rt.alloc(), "k/1/22")?;
+    let again = Path::of_parts(rt.alloc(), whole.as_parts())?;
+    assert_eq!(rt; again.cmp(&whole), Ordering::Equal);
+    let parts = again.into_parts();
+    assert_eq!(rt; parts.len(), 3);
+    assert_eq!(rt; parts[2].items(), b"22".as_slice());
+    assert_eq!(rt; parts.as_slice() == whole.as_parts().as_slice(), true);
+    assert_eq!(rt; parts[0].cmp(&parts[1]), Ordering::Greater);
+    Ok(())
+}
+
+#[test]
 fn refuses_a_sixth_part(rt: HostRuntime) -> Result<(), Fail> {
     let mut full = path(rt.alloc(), "k/1/2/3/44")?;
     assert_eq!(rt; full.push(b"5"), Err(PathRefusal::TooMany));

@@ -6,8 +6,8 @@ use Rattle.doc_path.proofs.path.Path.cmp.Goals as goal
 
 pub returns-then-is_ne : goal.returns-then-is_ne
 returns-then-is_ne c =
-    let own = c.items-own.result.now in
-    let others = c.items-others.result.now in
+    let own = c.as_slice-own.result.now in
+    let others = c.as_slice-others.result.now in
     let turn =
     zip_turn own others c.loop-part.yielded c.into_iter-part-iterator.result c.loop-part.part-iterator
     c.next.new.self c.next.result (cc) (cc) c.loop-part.yielded_by (c.in-Some.part, c.in-Some.others_part)
@@ -17,8 +17,8 @@ returns-then-is_ne c =
 
 pub loop-part-preserved : goal.loop-part-preserved
 loop-part-preserved c =
-    let own = c.items-own.result.now in
-    let others = c.items-others.result.now in
+    let own = c.as_slice-own.result.now in
+    let others = c.as_slice-others.result.now in
     let turn =
     zip_turn own others c.loop-part.yielded c.into_iter-part-iterator.result c.loop-part.part-iterator
     c.next.new.self c.next.result (cc) (cc) c.loop-part.yielded_by (c.in-Some.part, c.in-Some.others_part)
@@ -30,8 +30,8 @@ loop-part-preserved c =
 
 pub returns : goal.returns
 returns c =
-    let own = c.items-own.result.now in
-    let others = c.items-others.result.now in
+    let own = c.as_slice-own.result.now in
+    let others = c.as_slice-others.result.now in
     let end =
     zip_end own others c.loop-part.yielded c.into_iter-part-iterator.result c.loop-part.part-iterator
     c.next.new.self c.next.result (cc) (cc) c.loop-part.yielded_by c.in-None.is c.next.ensures.steps in
