@@ -1,5 +1,5 @@
 //! The value and the rows that committed transactions leave.
-ghost use Rattle.std.specs.Prelude.{◌≡◌, ◌∷◌, ◌++◌, [], Option, IfOk, OnOk, MatchOption, flat_map, false};
+ghost use Rattle.std.specs.Prelude.{◌≡◌, ◌++◌, IfOk, OnOk, MatchOption};
 ghost use Rattle.doc_path.specs.Path.{is_prefix};
 ghost use Rattle.txn_types.specs.Committed.{fold_of};
 ghost use Rattle.txn_types.specs.Writes.{value, beneath, last_word as last_word_in, row_with};

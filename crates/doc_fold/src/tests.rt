@@ -6,6 +6,7 @@ use hybrid_time::HybridTime;
 use std::alloc::Global;
 use std::test::Fail;
 use txn_types::{Bytes, CommittedTxn, Op, TxnId, Writes, Written};
+use value_cases::VALUE_CASES;
 
 fn path(alloc: Global, text: &str) -> Result<Path, Fail> {
     let mut parts = text.split('/');
@@ -93,83 +94,9 @@ fn value_text(alloc: Global, value: Option<Bytes>) -> Result<String, Fail> {
     Ok(text)
 }
 
-const CASES: [(&str, &str, u64, &str, &str); 23] = [
-    // A put over a path with subkeys.
-    ("k@10.0=a k/a@20.0=b k@30.0=c", "k", 9, "-", ""),
-    ("k@10.0=a k/a@20.0=b k@30.0=c", "k", 10, "a", "k=a"),
-    ("k@10.0=a k/a@20.0=b k@30.0=c", "k", 25, "a", "k=a k/a=b"),
-    ("k@10.0=a k/a@20.0=b k@30.0=c", "k/a", 25, "b", "k/a=b"),
-    ("k@10.0=a k/a@20.0=b k@30.0=c", "k", 30, "c", "k=c"),
-    ("k@10.0=a k/a@20.0=b k@30.0=c", "k/a", 30, "-", ""),
-    // A delete above and beneath.
-    (
-        "k@10.0=a k/a@10.1=b k/a/x@10.2=c k/a@20.0=-",
-        "k/a/x",
-        19,
-        "c",
-        "k/a/x=c",
-    ),
-    (
-        "k@10.0=a k/a@10.1=b k/a/x@10.2=c k/a@20.0=-",
-        "k/a/x",
-        20,
-        "-",
-        "",
-    ),
-    (
-        "k@10.0=a k/a@10.1=b k/a/x@10.2=c k/a@20.0=-",
-        "k",
-        20,
-        "a",
-        "k=a",
-    ),
-    ("k@10.0=a k/a@10.1=b k@20.0=- k/a@30.0=c", "k", 20, "-", ""),
-    (
-        "k@10.0=a k/a@10.1=b k@20.0=- k/a@30.0=c",
-        "k",
-        30,
-        "-",
-        "k/a=c",
-    ),
-    // Newer in time and lower in number.
-    ("k@10.7=a k@20.0=b", "k", 20, "b", "k=b"),
-    ("k@20.0=b k@10.7=a", "k", 19, "a", "k=a"),
-    // Two writes of one transaction at one path, and at a path and the one above it.
-    ("k@10.1=b k@10.0=a", "k", 10, "b", "k=b"),
-    ("k@10.1=b k/a@10.0=a", "k", 10, "b", "k=b"),
-    ("k@10.0=b k/a@10.1=a", "k", 10, "b", "k=b k/a=a"),
-    // A scan with holes, which passes by what only has the same first bytes.
-    (
-        "k@10.0=a k/a@10.1=b k/b@10.2=c k/c@10.3=d ka@10.4=z k/b@20.0=-",
-        "k",
-        20,
-        "a",
-        "k=a k/a=b k/c=d",
-    ),
-    (
-        "k@10.0=a k/a@10.1=b k/b@10.2=c k/c@10.3=d ka@10.4=z k/b@20.0=-",
-        "k",
-        10,
-        "a",
-        "k=a k/a=b k/b=c k/c=d",
-    ),
-    (
-        "k/b@10.0=c k/a/y@10.1=b k/a@10.2=a",
-        "k",
-        10,
-        "-",
-        "k/a=a k/b=c",
-    ),
-    ("", "k", 10, "-", ""),
-    // The order of commits, whatever the order of the list.
-    ("k@20.0=b k@10.0=a", "k", 20, "b", "k=b"),
-    ("k@20.0=b k/a@10.0=a", "k/a", 20, "-", ""),
-    ("k@20.0=b k/a@20.1=a k@10.0=c", "k/a", 20, "a", "k/a=a"),
-];
-
 #[test]
 fn gets_and_scans(rt: HostRuntime) -> Result<(), Fail> {
-    for (text, place, micros, value, rows) in CASES {
+    for (text, place, micros, value, rows) in VALUE_CASES {
         let list = committed(rt.alloc(), text)?;
         let place = path(rt.alloc(), place)?;
         let t = time(micros)?;
