@@ -11,11 +11,11 @@ use Rattle.conflict_matrix.specs.Decide.{ids, fate_times}
 use Rattle.conflict_matrix.specs.Steps.{lesser, greater_above, with_time}
 
 -- each of these numbers is above n
-abbrev AreAbove : ℕ → List ℕ → Type 0
+abbrev pub AreAbove : ℕ → List ℕ → Type 0
 AreAbove n [] = Unit {0}
 AreAbove n (m ∷ ms) = (n < m) × AreAbove n ms
 
-abbrev Rises : List ℕ → Type 0
+abbrev pub Rises : List ℕ → Type 0
 Rises [] = Unit {0}
 Rises (n ∷ ns) = AreAbove n ns × Rises ns
 
@@ -49,7 +49,7 @@ rises-with n (m ∷ ms) h =
       ]) ge refl
     ]) refl
 
-rises : (ns : List ℕ) → Rises (rising ns)
+pub rises : (ns : List ℕ) → Rises (rising ns)
 unfolding rising
 rises [] = tt
 rises (n ∷ ns) = rises-with n (rising ns) (rises ns)

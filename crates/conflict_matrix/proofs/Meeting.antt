@@ -38,6 +38,20 @@ weak_above-push p i a some in_p more =
     ∙ ap (flat_map weak_at) (paths_above-push (take i p) a long)
     ∙ weak_at-push (paths_above (take i p)) (take i p)
 
+-- the two weak intents on one more path
+pub two_more : (p above : Parts) (xs ys zs after : List IntentAt) → xs ≡ flat_map weak_at (paths_above p) → above ≡ p
+    → ys ≡ xs ++ (record { path = above; kind = WeakRead }) ∷ []
+    → zs ≡ ys ++ (record { path = above; kind = WeakWrite }) ∷ []
+    → after ≡ flat_map weak_at (paths_above p) ++ weak_at p
+    → zs ≡ after
+two_more p above xs ys zs after so_far is first second whole =
+    second
+    ∙ ap (λ l. l ++ (record { path = above; kind = WeakWrite }) ∷ []) first
+    ∙ append_assoc xs _ _
+    ∙ ap (λ l. l ++ weak_at above) so_far
+    ∙ ap (λ q. flat_map weak_at (paths_above p) ++ weak_at q) is
+    ∙ sym whole
+
 pub intents_of-from : (p : Parts) (i : ℕ) (xs : List IntentAt) → length p ≤ i → xs ≡ flat_map weak_at (paths_above (take i p))
     → (xs ++ (record { path = p; kind = StrongRead }) ∷ []) ++ (record { path = p; kind = StrongWrite }) ∷ [] ≡ intents_of p
 unfolding intents_of

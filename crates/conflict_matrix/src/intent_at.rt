@@ -5,6 +5,8 @@ use doc_path::Path;
 /// An intent on a path.
 #[derive(Debug, Drop)]
 pub struct IntentAt {
+    /// Where it stands.
     pub path: Path,
+    /// What it is taken for.
     pub kind: Kind,
 }

@@ -1,14 +1,14 @@
 //! The intents of a write, and what it is answered.
-ghost use Rattle.std.specs.Prelude.{◌≡◌, ℕ, ◌++◌, ◌∷◌, [], Option, IfOk, OnOk};
+ghost use Rattle.std.specs.Prelude.{◌≡◌, ◌++◌, ◌∷◌, [], IfOk, OnOk};
 ghost use Rattle.txn_types.specs.Tablet.{first_fate as fate_in, is_open as stands_open, commit_time};
-ghost use Rattle.conflict_matrix.specs.Conflict.{intents_of as intents_on, weak_at};
+ghost use Rattle.conflict_matrix.specs.Conflict.{intents_of as intents_on};
 ghost use Rattle.conflict_matrix.specs.Decide.{least_open as least_in, overlap, decision};
 ghost use Rattle.conflict_matrix.specs.Steps.{lesser as lesser_of, with_time as time_with};
 
 use crate::decision::Decision;
 use crate::intent_at::IntentAt;
 use crate::kind::Kind;
-use doc_path::Path;
+use doc_path::{Path, PathRefusal};
 use docdb_base::{Memory, TryCopy};
 use hybrid_time::HybridTime;
 use std::alloc::{AllocError, Global};
@@ -25,7 +25,11 @@ pub fn intents_of(alloc: Global, path: &Path) -> Result<Vec<IntentAt>, Memory>
     for i in 1..parts {
         push_intent(&mut intents, alloc, &above, Kind::WeakRead)?;
         push_intent(&mut intents, alloc, &above, Kind::WeakWrite)?;
-        above.push(path.part(i)).map_err(|_| AllocError)?;
+        match above.push(path.part(i)) {
+            Ok(()) => {}
+            Err(PathRefusal::Memory) => return Err(AllocError),
+            Err(PathRefusal::TooMany) => unreachable!(),
+        }
     }
     push_intent(&mut intents, alloc, path, Kind::StrongRead)?;
     push_intent(&mut intents, alloc, path, Kind::StrongWrite)?;
@@ -48,7 +52,8 @@ fn push_intent(
 
 /// What a write is answered. `others` are the other transactions that have a related provisional write, `fates` what is
 /// known of them, of which the first of each transaction counts, and `newest` the commit time of the newest related
-/// version. A write without a read time never overlaps. It takes no memory.
+/// version, which is passed over where it is not above the read time. A write without a read time never overlaps. It takes
+/// no memory.
 pub fn decide(
     others: &Founds,
     fates: &Fates,
