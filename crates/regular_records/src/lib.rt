@@ -1,0 +1,23 @@
+//! The versions of a tablet: what was committed, path by path and time by time.
+//!
+//! The trait `Versions` is what a tablet stands on. Contracts see its versions as a list, in whatever order, and each
+//! call answers what the definitions of values, of related writes and of what a read meets make of that list.
+//! `MapVersions` keeps them in an ordered map, by path and then newest first.
+#![tactic(auto)]
+
+mod adding;
+mod decided;
+pub mod laws;
+mod map_versions;
+mod moment;
+mod related;
+mod scan;
+mod store;
+#[cfg(test)]
+mod tests;
+mod versions;
+mod word;
+
+pub use decided::Decided;
+pub use map_versions::MapVersions;
+pub use versions::Versions;
