@@ -1,0 +1,9 @@
+pub mod Between
+pub mod Hits
+pub mod Rising
+pub mod Writes
+pub mod Told
+pub mod Positions
+pub mod Changes
+pub mod Reading
+pub mod Listing

@@ -1,0 +1,5 @@
+pub mod Keys
+pub mod KeyOrder
+pub mod Holds
+pub mod Search
+pub mod Steps
