@@ -1,3 +1,4 @@
 pub mod Framed
 pub mod Replayed
 pub mod Stepped
+pub mod Restarted

@@ -3,3 +3,4 @@ pub mod Entries
 pub mod Replay
 pub mod Logged
 pub mod Refusals
+pub mod Rests

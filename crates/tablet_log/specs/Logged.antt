@@ -26,7 +26,7 @@ log_faults [] = 0
 log_faults (e ∷ h) = faults_after (log_faults h) e.event
 
 -- After these own entries of an actor, whose store began as `start`: the count of faults rose at least as often as
--- entries answer LogFault. Over the bytes at the beginning stand the frames of the entries that count, in their order, a
+-- entries answer LogFault. Behind the bytes that it began with stand the frames of the entries that count, in their order, a
 -- lease before the record that needs it. Where the last append failed and no restart came since, its records may stand
 -- behind them, all or none.
 pub record Logged (lease : ℕ) (h : History) (start now : Store) : Type 0 where
