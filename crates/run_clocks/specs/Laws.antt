@@ -93,7 +93,7 @@ Listing (Serve from (request.ListRead own_txn paths u v given) (reply.Listed fix
     (u ≡ t) × (v ≡ g) × (given ≡ limit) × (fixed ≡ local)
 Listing event t g limit local = ⊥
 
--- a request that may add a version or a provisional write
+-- a request that writes: it may add a provisional write, or a version of its own
 abbrev pub Adds : Event → Type 0
 Adds (Serve from (request.Write meta number path op read seen fates) r time append) = Unit {0}
 Adds (Serve from (request.Single x path op seen fates) r time append) = Unit {0}
@@ -108,7 +108,7 @@ abbrev pub ListingsReach : Type 0
 ListingsReach = (config : Config) (h : History) (j : Entry) (t g : ℕ) (limit : Option ℕ) (local : ℕ) → Run config h → Member j h →
     Listing j.event t g limit local → (now : ℕ) × (time_of j.event ≡ Some now) × Reached t g limit local now
 
--- after a listing read at t, a tablet adds only above t, and above the limit that was fixed then
+-- after a listing read at t, a tablet adds only above t, and above the local limit, where it was fixed then and not given
 abbrev pub ListingsPromise : Type 0
 ListingsPromise = (config : Config) (h before : History) (j f : Entry) (t g : ℕ) (limit : Option ℕ) (local w : ℕ) → Run config h →
     StandsOver f before h → Member j before → j.actor ≡ f.actor → Listing j.event t g limit local → Adds f.event → time_of f.event ≡ Some w →

@@ -38,7 +38,7 @@ pub fn listings_reach()
 {}
 
 /// After a tablet listed for a read, each later write there that takes a time has one above the read's time, and above
-/// the limit that was fixed then.
+/// the local limit, where the read fixed it then.
 pub fn listings_promise()
     ensures { ListingsPromise }
 {}

@@ -49,7 +49,7 @@ use Rattle.run_kept.proofs.Landing.{Makes, Keeps, AllKept, kept_lands}
 
 -- ## what is applied is applied at the commit time
 
-grows_prefix : (a : Actor) (e : Entry) (before h : History) → StandsOver e before h → Grows (logged (landed (own a before))) (logged (landed (own a h)))
+pub grows_prefix : (a : Actor) (e : Entry) (before h : History) → StandsOver e before h → Grows (logged (landed (own a before))) (logged (landed (own a h)))
 grows_prefix a e before [] stands = absurd stands
 grows_prefix a e before (f ∷ h) stands = elim stands [
   | inl here ↦ subst (λ (l : History). Grows (logged (landed (own a l))) (logged (landed (own a (f ∷ h))))) here.1 (own_grows (logged (landed (own a h))) Same)
@@ -65,7 +65,7 @@ grows_prefix a e before (f ∷ h) stands = elim stands [
 same_end : (v w : Life) (c d : ℕ) → v ≡ Finished d → IsNotBefore v w → w ≡ Finished c → d ≡ c
 same_end v w c d is step end = let later : w ≡ Finished d = subst (λ (z : Life). IsNotBefore z w) is step in cc
 
-apply_time : (config : Config) (h before : History) (e : Entry) (x at c : ℕ) → Run config h → StandsOver e before h → AppliesAt x at e.event → CommittedAt h x c → at ≡ c
+pub apply_time : (config : Config) (h before : History) (e : Entry) (x at c : ℕ) → Run config h → StandsOver e before h → AppliesAt x at e.event → CommittedAt h x c → at ≡ c
 apply_time config h before e x at c run stands applies committed =
     let until = run_until config h before e run stands in
     let was = committed_finished config before x at until (applies_committed config h before e x at run stands applies) in
@@ -114,7 +114,7 @@ makes_event ps (Serve from (request.Apply x at) r time append) p m = inl (filter
 makes_event ps (Serve from (request.Clean x) r time append) p m = inl (filter_member _ p ps m).0
 makes_event ps event p m = inl m
 
-intent_made : (l : History) (p : Intent) → Member p (provisional_over l) → (e : Entry) × Member e l × Makes p.meta.txn p e.event
+pub intent_made : (l : History) (p : Intent) → Member p (provisional_over l) → (e : Entry) × Member e l × Makes p.meta.txn p e.event
 unfolding provisional_over
 intent_made [] p m = absurd m
 intent_made (e ∷ l) p m = elim (makes_event (provisional_over l) e.event p m) [
@@ -122,7 +122,7 @@ intent_made (e ∷ l) p m = elim (makes_event (provisional_over l) e.event p m) 
   | inr new ↦ (e, inl refl, new)
 ]
 
-makes_write : (x : ℕ) (p : Intent) (event : Event) → Makes x p event → IsWriteOf x event
+pub makes_write : (x : ℕ) (p : Intent) (event : Event) → Makes x p event → IsWriteOf x event
 makes_write x p (Serve from (request.Write meta number path op read seen fates) r (Some w) append) is = is.0
 makes_write x p event is = absurd is
 
@@ -191,7 +191,7 @@ forgotten_none config h x c k p run gone m own_txn =
     let s = gone.applied k named in
     applied_stays config h s.0 x k run s.1 s.2 s.3 p m own_txn
 
-clean_never : (config : Config) (h before : History) (e : Entry) (x c k : ℕ) → Run config h → StandsOver e before h → e.actor ≡ Tablet k → was_logged e.event ≡ true → CleansOf x e.event → CommittedAt h x c → ⊥
+pub clean_never : (config : Config) (h before : History) (e : Entry) (x c k : ℕ) → Run config h → StandsOver e before h → e.actor ≡ Tablet k → was_logged e.event ≡ true → CleansOf x e.event → CommittedAt h x c → ⊥
 clean_never config h before e x c k run stands at logs cleans committed =
     let until = run_until config h before e run stands in
     let served : ServesNext config.lease_us (Tablet k) (own (Tablet k) before) e.reading e.event = subst (λ (d : Actor). ServesNext config.lease_us d (own d before) e.reading e.event) at (serves_at config e before h run.1 stands) in

@@ -19,7 +19,7 @@ bytes_same (a ∷ rest) (b ∷ bs) is =
     let p = and_parts (nat_eq a b) (bytes_eq rest bs) is in
     ap (λ (x : ℕ). x ∷ rest) (eq_true a b p.0) ∙ ap (λ (l : List ℕ). b ∷ l) (bytes_same rest bs p.1)
 
-path_same : (p q : Parts) → is_prefix p q ≡ true → is_prefix q p ≡ true → p ≡ q
+pub path_same : (p q : Parts) → is_prefix p q ≡ true → is_prefix q p ≡ true → p ≡ q
 path_same [] [] one two = refl
 path_same [] (b ∷ q) one two = cc
 path_same (a ∷ p) [] one two = cc

@@ -7,7 +7,7 @@ use Rattle.txn_types.specs.History.{History, own, standing, was_logged}
 use Rattle.txn_types.specs.Run.{Run}
 use Rattle.run_machines.specs.Own.{ServesAll, effects}
 
--- each actor's own entries are what its table answers, one after another
+-- each machine's own entries are what its table answers, one after another
 abbrev pub EachByItsTable : Type 0
 EachByItsTable = (config : Config) (h : History) (a : Actor) → Run config h → ServesAll config.lease_us a (own a h)
 

@@ -1,7 +1,7 @@
 //! What holds of each machine in every run, for proofs of callers. A call does nothing.
 ghost use Rattle.run_machines.specs.Laws.{EachByItsTable, LogIsWhatTookEffect};
 
-/// In every run the own entries of each actor are what its table answers, one after another.
+/// In every run the own entries of each machine are what its table answers, one after another.
 pub fn each_by_its_table()
     ensures { EachByItsTable }
 {}

@@ -49,12 +49,12 @@ place_choice false u v w us m more = elim m [
   | inr later ↦ elim (more later) [ inl new ↦ inl new | inr old ↦ inr (inr old) ]
 ]
 
-with_either : (us : List Version) (v w : Version) → Member w (with_version us v) → (w ≡ v) ⊎ Member w us
+pub with_either : (us : List Version) (v w : Version) → Member w (with_version us v) → (w ≡ v) ⊎ Member w us
 unfolding with_version
 with_either [] v w m = elim m [ inl new ↦ inl new | inr none ↦ absurd none ]
 with_either (u ∷ us) v w m = place_choice (same_place u v) u v w us m (with_either us v w)
 
-withs_either : (us vs : List Version) (w : Version) → Member w (with_versions us vs) → Member w vs ⊎ Member w us
+pub withs_either : (us vs : List Version) (w : Version) → Member w (with_versions us vs) → Member w vs ⊎ Member w us
 unfolding with_versions
 withs_either us [] w m = inr m
 withs_either us (v ∷ vs) w m = elim (withs_either (with_version us v) vs w m) [

@@ -31,7 +31,7 @@ use Rattle.run_related.proofs.Writes.{related_back, pair_of, Made, made_by, made
 
 -- ## related paths are at one tablet
 
-first_same : (p q : Parts) → IsPath p → IsPath q → related p q ≡ true → first_part p ≡ first_part q
+pub first_same : (p q : Parts) → IsPath p → IsPath q → related p q ≡ true → first_part p ≡ first_part q
 first_same [] q path other is = absurd (omega (arith, path.0))
 first_same (a ∷ p) [] path other is = absurd (omega (arith, other.0))
 first_same (a ∷ p) (b ∷ q) path other is = elim (or_cases (bytes_eq a b && is_prefix p q) (bytes_eq b a && is_prefix q p) is) [
@@ -49,7 +49,7 @@ place_of h before x c path e a (Serve from (request.Write meta number q op read 
 place_of h before x c path e a (Serve from (request.Single y q op seen fates) r (Some d) append) placed write = subst (λ (p : Parts). IsPlace before a p) write.1 placed
 place_of h before x c path e a event placed write = absurd write
 
-made_place : (config : Config) (h : History) (x : CommittedTxn) (path : Parts) (m : Made h x path) → Run config h → IsPlace h m.entry.actor path
+pub made_place : (config : Config) (h : History) (x : CommittedTxn) (path : Parts) (m : Made h x path) → Run config h → IsPlace h m.entry.actor path
 made_place config h x path m run =
     let at = member_stands m.entry h m.member in
     let p = place_of h at.0 x.txn x.at path m.entry m.entry.actor m.entry.event (writes_placed config h at.0 m.entry run at.1) m.writes in

@@ -1,13 +1,13 @@
 //! Committed transactions with related writes in every run, for proofs of callers. A call does nothing.
 ghost use Rattle.run_related.specs.Laws.{RelatedCommitsDiffer, RelatedCommitsReadAbove};
 
-/// Two committed transactions with related writes never have one commit time, single writes among them.
+/// Where places agree, two committed transactions with related writes never have one commit time, single writes among them.
 pub fn related_commits_differ()
     ensures { RelatedCommitsDiffer }
 {}
 
-/// Of two committed snapshot transactions with related writes, a write of the one read not below the commit time of the
-/// other.
+/// Where places agree, of two committed snapshot transactions with related writes, a write of the one read not below the
+/// commit time of the other.
 pub fn related_commits_read_above()
     ensures { RelatedCommitsReadAbove }
 {}
