@@ -1,0 +1,5 @@
+pub mod Answered
+pub mod Places
+pub mod Same
+pub mod Log
+pub mod Runs
