@@ -1,0 +1,4 @@
+pub mod Items
+pub mod Intents
+pub mod Visits
+pub mod Shown

@@ -1,0 +1,7 @@
+//! What finished reads did in every run, for proofs of callers. A call does nothing.
+ghost use Rattle.run_reads.specs.Laws.{ReadsVisitTheirTablets};
+
+/// Each finished read visited each of its tablets at its final time, and before with a window.
+pub fn reads_visit_their_tablets()
+    ensures { ReadsVisitTheirTablets }
+{}

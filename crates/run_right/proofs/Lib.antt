@@ -1,0 +1,4 @@
+pub mod Floors
+pub mod Starts
+pub mod Above
+pub mod Right
