@@ -1,0 +1,5 @@
+pub mod Grounds
+pub mod Programs
+pub mod Tables
+pub mod Movers
+pub mod Runs
