@@ -22,45 +22,45 @@ use Rattle.run_sessions.proofs.Runs.{no_write_after, commits_cover}
 use Rattle.run_heard.proofs.Runs.{run_until, applies_committed}
 
 -- the first transaction of session 1
-abbrev x : ℕ
+abbrev pub x : ℕ
 x = 18446744073709551617
 
-abbrev doc : Parts
+abbrev pub doc : Parts
 doc = (7 ∷ []) ∷ []
 
-abbrev meta : Meta
+abbrev pub meta : Meta
 meta = record { txn = x; status = 0; isolation = Snapshot; priority = 0 }
 
-abbrev at_status : Event → Entry
+abbrev pub at_status : Event → Entry
 at_status event = record { actor = Status 0; reading = Some 0; event = event }
 
-abbrev at_tablet : Event → Entry
+abbrev pub at_tablet : Event → Entry
 at_tablet event = record { actor = Tablet 0; reading = Some 0; event = event }
 
 -- it commits at this time, asked with this floor
-abbrev commits : ℕ → ℕ → Entry
+abbrev pub commits : ℕ → ℕ → Entry
 commits floor c = at_status (Serve (Session 1) (request.Commit x floor (0 ∷ [])) (reply.Committed c) (Some c) Took)
 
 -- it writes at this time
-abbrev writes : ℕ → Entry
+abbrev pub writes : ℕ → Entry
 writes w = at_tablet (Serve (Session 1) (request.Write meta 0 doc Delete 0 0 []) (reply.Written w) (Some w) Took)
 
--- an applier asks about it at time 0, and hears Pending with this time of the clock
+-- someone asks about it at t, and hears Pending with this time of the clock
 abbrev pending : ℕ → ℕ → Entry
-pending t now = at_status (Serve (Applier 0) (request.AskFate x t) (reply.FateIs fate.Pending) (Some now) Nothing)
+pending t now = at_status (Serve (Session 2) (request.AskFate x t) (reply.FateIs fate.Pending) (Some now) Nothing)
 
 -- a tablet lists for a read at t, with this local limit
-abbrev lists : ℕ → ℕ → Entry
-lists t limit = at_tablet (Serve (Session 2) (request.ListRead None (doc ∷ []) t 100 None) (reply.Listed limit []) (Some t) Nothing)
+abbrev pub lists : ℕ → ℕ → Entry
+lists t limit = at_tablet (Serve (Session 2) (request.ListRead None (doc ∷ []) t 8191 None) (reply.Listed limit []) (Some t) Nothing)
 
 -- Pending, with the clock left below the time asked about
 clock_left_below : (config : Config) (h : History) → Run config (pending 10 5 ∷ h) → ⊥
 clock_left_below config h run = let p = times_keep_floors config (pending 10 5 ∷ h) (pending 10 5) 5 run (inl refl) refl in let low = p.0 in omega (arith, low)
 
 -- a commit below what Pending promised
-commit_below_promise : (config : Config) (h : History) → Run config (commits 0 5 ∷ pending 10 10 ∷ h) → ⊥
+commit_below_promise : (config : Config) (h : History) → Run config (commits 3 5 ∷ pending 10 10 ∷ h) → ⊥
 commit_below_promise config h run =
-    let p = pending_kept config (commits 0 5 ∷ pending 10 10 ∷ h) (pending 10 10 ∷ h) (pending 10 10) (commits 0 5) (Applier 0) (Session 1) x 10 0 5 (0 ∷ []) (reply.Committed 5) (Some 10) Nothing Took
+    let p = pending_kept config (commits 3 5 ∷ pending 10 10 ∷ h) (pending 10 10 ∷ h) (pending 10 10) (commits 3 5) (Session 2) (Session 1) x 10 3 5 (0 ∷ []) (reply.Committed 5) (Some 10) Nothing Took
     run (inl (refl, refl)) (inl refl) refl refl in
     omega (arith, p)
 
@@ -72,18 +72,18 @@ commit_below_write config h run =
     let low = w.0 in omega (arith, low)
 
 -- a write after a commit, also of one that was lost
-write_after_commit : (config : Config) (h : History) → Run config (writes 9 ∷ commits 0 5 ∷ h) → ⊥
-write_after_commit config h run = no_write_after config (writes 9 ∷ commits 0 5 ∷ h) (commits 0 5 ∷ h) (writes 9) (commits 0 5) x run (inl (refl, refl)) refl (inl refl) (refl, tt)
+write_after_commit : (config : Config) (h : History) → Run config (writes 9 ∷ commits 3 5 ∷ h) → ⊥
+write_after_commit config h run = no_write_after config (writes 9 ∷ commits 3 5 ∷ h) (commits 3 5 ∷ h) (writes 9) (commits 3 5) x run (inl (refl, refl)) refl (inl refl) (refl, tt)
 
 -- a write at or below what a listing read promised
 write_below_listing : (config : Config) (h : History) → Run config (writes 10 ∷ lists 10 10 ∷ h) → ⊥
 write_below_listing config h run =
-    let p = listings_promise config (writes 10 ∷ lists 10 10 ∷ h) (lists 10 10 ∷ h) (lists 10 10) (writes 10) 10 100 None 10 10 run (inl (refl, refl)) (inl refl) refl (refl, refl, refl, refl) tt refl in
+    let p = listings_promise config (writes 10 ∷ lists 10 10 ∷ h) (lists 10 10 ∷ h) (lists 10 10) (writes 10) 10 8191 None 10 10 run (inl (refl, refl)) (inl refl) refl (refl, refl, refl, refl) tt refl in
     let lt = p.0 in omega (arith, lt)
 
 -- an applier is told that it is committed at this time
 abbrev told : ℕ → Entry
-told c = at_status (Serve (Applier 0) (request.AskFate x 20) (reply.FateIs (fate.Committed c)) (Some 20) Nothing)
+told c = at_status (Serve (Applier 0) (request.AskFate x 0) (reply.FateIs (fate.Committed c)) (Some 20) Nothing)
 
 -- a tablet is asked to apply it at this time
 abbrev applies : ℕ → Entry

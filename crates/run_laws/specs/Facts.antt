@@ -1,4 +1,5 @@
--- The facts on which what a read has to answer rests, each over every cluster and every history that is a run.
+-- The facts on which what a read has to answer rests, each over every cluster and every history that is a run. Two of the
+-- last group want besides that places agree: those with equal first parts name one tablet.
 use Rattle.run_clocks.specs.Laws.{TimesRise, TimesKeepFloors, CountsForGood, LeasesCover, LastIsGreatest, ListingsReach, ListingsPromise}
 use Rattle.run_owners.specs.Laws.{PendingIsKept}
 use Rattle.run_fates.specs.Laws.{CommitsOnce, ToldCommittedIs, ToldAbortedNeverCommits, PendingCommitsAbove}
@@ -25,8 +26,8 @@ pub record PendingPromise : Type 0 where
   pub later : PendingIsKept
   pub whenever : PendingCommitsAbove
 
--- a transaction commits once, above all its writes and above the time that each read at; one with a write whose append
--- failed never does
+-- a transaction commits once, above all its writes and above the time that each of them read at; one with a write whose
+-- append failed never does
 pub record CommitTimes : Type 0 where
   pub once : CommitsOnce
   pub above : CommitsAboveWrites
@@ -42,13 +43,14 @@ pub record SessionOrder : Type 0 where
   pub ended : NoWriteAfterEnd
   pub covered : CommitsCover
 
--- what a listing read promises of earlier and of later writes
+-- what a listing read reached, and what it promises of later writes
 pub record ListingPromise : Type 0 where
   pub reached : ListingsReach
   pub later : ListingsPromise
 
--- the writes of a committed transaction: each is provisional at its tablet or a version there with the commit time; while
--- something of it is provisional its record is there; and once applied nothing of it is provisional again
+-- the accepted writes of a committed transaction: each is provisional at its tablet, or a version with its path and the
+-- commit time stands there; while something of it is provisional its record is there; and once applied nothing of it is
+-- provisional again
 pub record CommittedWrites : Type 0 where
   pub kept : CommittedIsKept
   pub recorded : CommittedIsRecorded

@@ -31,14 +31,14 @@ pub fn listing_promise()
     ensures { ListingPromise }
 {}
 
-/// Each write of a committed transaction is provisional at its tablet, with its record there, or a version with the commit
-/// time; once applied, it is not provisional again.
+/// Each accepted write of a committed transaction is provisional at its tablet, with its record there, or a version with its
+/// path and the commit time stands there; once applied, it is not provisional again.
 pub fn committed_writes()
     ensures { CommittedWrites }
 {}
 
-/// Related writes are committed in the order in which their tablet took them, so two committed transactions with related
-/// writes never have one commit time.
+/// Related writes are committed in the order in which their tablet took them. So where places agree, two committed
+/// transactions with related writes never have one commit time.
 pub fn related_writes()
     ensures { RelatedWrites }
 {}
