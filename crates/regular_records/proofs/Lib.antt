@@ -18,3 +18,6 @@ pub mod Below
 pub mod Found
 pub mod Greatest
 pub mod Several
+pub mod Added
+pub mod Joined
+pub mod Both

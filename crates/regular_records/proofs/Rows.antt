@@ -70,18 +70,18 @@ pub rising-filter : (f : Parts → Bool) (qs : List Parts) → Rising qs → Ris
 rising-filter f [] r = tt
 rising-filter f (q ∷ qs) r = elim (f q) as (λ b. Rising (if b then q ∷ filter f qs else filter f qs)) [ true ↦ (after-filter f q qs r.0, rising-filter f qs r.1) | false ↦ rising-filter f qs r.1 ]
 
-abbrev placed : Ordering → Parts → Parts → List Parts → List Parts
+abbrev pub placed : Ordering → Parts → Parts → List Parts → List Parts
 placed Less p q qs = p ∷ q ∷ qs
 placed Equal p q qs = q ∷ qs
 placed Greater p q qs = q ∷ with_path p qs
 
-with_path-cons : (p q : Parts) (qs : List Parts) → with_path p (q ∷ qs) ≡ placed (parts_cmp p q) p q qs
+pub with_path-cons : (p q : Parts) (qs : List Parts) → with_path p (q ∷ qs) ≡ placed (parts_cmp p q) p q qs
 unfolding with_path
 with_path-cons p q qs =
     elim (path_order p q) as (λ o. (elim o [ Less ↦ p ∷ q ∷ qs | Equal ↦ q ∷ qs | Greater ↦ q ∷ with_path p qs ]) ≡ placed o p q qs) [ Less ↦ refl | Equal ↦ refl | Greater ↦ refl ]
     ∙ ap (λ o. placed o p q qs) (path_order-cmp p q)
 
-with_path-nil : (p : Parts) → with_path p [] ≡ p ∷ []
+pub with_path-nil : (p : Parts) → with_path p [] ≡ p ∷ []
 unfolding with_path
 with_path-nil p = refl
 
@@ -91,7 +91,7 @@ after-with r p (q ∷ qs) h a =
     let P : Ordering → Type 0 = λ o. AllAfter r (placed o p q qs) in
     subst (AllAfter r) (sym (with_path-cons p q qs)) (elim (parts_cmp p q) as P [ Less ↦ (h, a) | Equal ↦ a | Greater ↦ (a.0, after-with r p qs h a.1) ])
 
-rising-with : (p : Parts) (qs : List Parts) → Rising qs → Rising (with_path p qs)
+pub rising-with : (p : Parts) (qs : List Parts) → Rising qs → Rising (with_path p qs)
 rising-with p [] r = subst Rising (sym (with_path-nil p)) (tt, tt)
 rising-with p (q ∷ qs) r =
     let P : Ordering → Type 0 = λ o. parts_cmp p q ≡ o → Rising (placed o p q qs) in
@@ -109,19 +109,19 @@ rising-beneath p (w ∷ ws) = elim (is_prefix p w.path) as (λ b. Rising (if b t
   | false ↦ rising-beneath p ws
 ]
 
-with-has : (p : Parts) (qs : List Parts) → Member p (with_path p qs)
+pub with-has : (p : Parts) (qs : List Parts) → Member p (with_path p qs)
 with-has p [] = subst (Member p) (sym (with_path-nil p)) (inl refl)
 with-has p (q ∷ qs) =
     let P : Ordering → Type 0 = λ o. parts_cmp p q ≡ o → Member p (placed o p q qs) in
     subst (Member p) (sym (with_path-cons p q qs)) ((elim (parts_cmp p q) as P [ Less ↦ λ h. inl refl | Equal ↦ λ h. inl (parts_exact p q h) | Greater ↦ λ h. inr (with-has p qs) ]) refl)
 
-with-keeps : (r p : Parts) (qs : List Parts) → Member r qs → Member r (with_path p qs)
+pub with-keeps : (r p : Parts) (qs : List Parts) → Member r qs → Member r (with_path p qs)
 with-keeps r p [] m = absurd m
 with-keeps r p (q ∷ qs) m =
     let P : Ordering → Type 0 = λ o. Member r (placed o p q qs) in
     subst (Member r) (sym (with_path-cons p q qs)) (elim (parts_cmp p q) as P [ Less ↦ inr m | Equal ↦ m | Greater ↦ (elim m [ inl e ↦ inl e | inr n ↦ inr (with-keeps r p qs n) ]) ])
 
-with-only : (r p : Parts) (qs : List Parts) → Member r (with_path p qs) → (r ≡ p) ⊎ Member r qs
+pub with-only : (r p : Parts) (qs : List Parts) → Member r (with_path p qs) → (r ≡ p) ⊎ Member r qs
 with-only r p [] m = elim (subst (Member r) (with_path-nil p) m) [ inl e ↦ inl e | inr n ↦ absurd n ]
 with-only r p (q ∷ qs) m =
     let P : Ordering → Type 0 = λ o. Member r (placed o p q qs) → (r ≡ p) ⊎ Member r (q ∷ qs) in

@@ -148,19 +148,19 @@ valued-entry t store k q v h =
     subst (λ r. Member r (items_of store.entries)) is (member-items store.entries e.0 e.1)
 
 -- a path with a value among writes was written
-valued-written : (ws : List Written) (p q : Parts) (v : List ℕ) → value ws q ≡ Some v → is_prefix p q ≡ true → Member q (paths_beneath p ws)
+pub valued-written : (ws : List Written) (p q : Parts) (v : List ℕ) → value ws q ≡ Some v → is_prefix p q ≡ true → Member q (paths_beneath p ws)
 valued-written ws p q v h b =
     let w = set-there q (last_word ws q) v h in
     let l = last-member ws q w.0 w.1 in
     let is : w.0.path ≡ q = same-from-prefixes q w.0.path w.2 l.1 in
     subst (λ r. Member r (paths_beneath p ws)) is (beneath-has p ws w.0 l.0 (ap (is_prefix p) is ∙ b))
 
-covered : (rows : Parts → List Row) (found : Parts → Option (List ℕ)) (q : Parts) (rs : List Parts) → ((o : Option (List ℕ)) → found q ≡ o → rows q ≡ row_with q o) → ((v : List ℕ) → found q ≡ Some v → Member q rs) → (rows q ≡ []) ⊎ Member q rs
+pub covered : (rows : Parts → List Row) (found : Parts → Option (List ℕ)) (q : Parts) (rs : List Parts) → ((o : Option (List ℕ)) → found q ≡ o → rows q ≡ row_with q o) → ((v : List ℕ) → found q ≡ Some v → Member q rs) → (rows q ≡ []) ⊎ Member q rs
 covered rows found q rs is has =
     let P : Option (List ℕ) → Type 0 = λ o. found q ≡ o → (rows q ≡ []) ⊎ Member q rs in
     (elim (found q) as P [ None ↦ λ e. inl (is None e) | Some v ↦ λ e. inr (has v e) ]) refl
 
-flat_map-same : (f g : Parts → List Row) (qs : List Parts) → ((q : Parts) → f q ≡ g q) → flat_map f qs ≡ flat_map g qs
+pub flat_map-same : (f g : Parts → List Row) (qs : List Parts) → ((q : Parts) → f q ≡ g q) → flat_map f qs ≡ flat_map g qs
 flat_map-same f g [] h = refl
 flat_map-same f g (q ∷ qs) h = ap (λ r. r ++ flat_map f qs) (h q) ∙ ap (λ r. g q ++ r) (flat_map-same f g qs h)
 
@@ -183,3 +183,8 @@ rows-kept t key store vs p k h is =
     ∙ same-rows (length kept + length written) (rows_of t store) kept written (omega arith) (rising-filter (is_prefix q) (items_of store.entries) (rising-items store.entries k.0)) (rising-beneath q ws) there here
     ∙ flat_map-same (rows_of t store) (λ r. row_with r (value ws r)) written (λ r. ap (row_with r) (same r))
     ∙ ap (λ r. flat_map (λ s. row_with s (value ws s)) (paths_beneath r ws)) is
+
+-- where each path fits, those of all rows do
+pub all_fit : (rows : List Row) → AllByRecursion (λ (r : Row). Unit {0}) rows
+all_fit [] = tt
+all_fit (r ∷ rows) = (tt, all_fit rows)

@@ -6,3 +6,4 @@ pub mod Kept
 pub mod Scan
 pub mod Adding
 pub mod Related
+pub mod Merged

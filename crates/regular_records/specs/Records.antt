@@ -1,5 +1,5 @@
 -- A set of versions as a list, and what it answers.
-use Rattle.std.specs.Prelude.{ℕ, ◌&&◌, ◌||◌, List, [], ◌∷◌, Option, Some, None, nat_le, nat_lt, nat_eq, if◌then◌else◌, map, filter, option_map}
+use Rattle.std.specs.Prelude.{ℕ, ◌&&◌, ◌||◌, List, [], ◌∷◌, Option, Some, None, nat_le, nat_lt, nat_eq, if◌then◌else◌, map, filter, option_map, length}
 use Rattle.doc_path.specs.Path.{Parts, is_prefix, related, path_order}
 use Rattle.txn_data.specs.declared.version.Version.{Version}
 use Rattle.txn_data.specs.declared.met_at.MetAt.{MetAt}
@@ -23,9 +23,12 @@ unfoldable pub newest : ℕ → Parts → List Version → Option Version
 newest t p [] = None
 newest t p (v ∷ vs) = later (deciding t p v) (newest t p vs)
 
--- its commit time and write number
+-- its commit time and write number, and how many parts its path has
+abbrev pub decided_by : Version → Decided
+decided_by v = record { at = v.at; number = v.number; parts = length v.path }
+
 abbrev pub decided : ℕ → Parts → List Version → Option Decided
-decided t p vs = option_map (λ (v : Version). record { at = v.at; number = v.number }) (newest t p vs)
+decided t p vs = option_map decided_by (newest t p vs)
 
 -- the commit times of the versions on paths related to p
 abbrev pub times_on : Parts → List Version → List ℕ

@@ -9,6 +9,7 @@ mod adding;
 mod decided;
 pub mod laws;
 mod map_versions;
+mod merged;
 mod moment;
 mod related;
 mod scan;
@@ -20,4 +21,5 @@ mod word;
 
 pub use decided::Decided;
 pub use map_versions::MapVersions;
+pub use merged::{get_merged, scan_merged};
 pub use versions::Versions;

@@ -102,6 +102,7 @@ impl Versions for MapVersions {
             Some(word) => Some(Decided {
                 at: *word.at,
                 number: word.number,
+                parts: word.parts,
             }),
         }
     }

@@ -41,8 +41,8 @@ pub fn begins(path: &[PathPart], other: &[PathPart]) -> bool
     path.len() <= other.len() && &other[..path.len()] == path
 }
 
-// Adds a row where there is a value.
-fn push_row(
+/// Adds a row where there is a value.
+pub fn push_row(
     rows: &mut Rows,
     alloc: Global,
     path: &[PathPart],

@@ -109,22 +109,22 @@ fn gets_and_scans(rt: HostRuntime) -> Result<(), Fail> {
 #[test]
 fn tells_what_decides(rt: HostRuntime) -> Result<(), Fail> {
     let rows = [
-        ("k@10.3=a k/a@20.1=b", "k/a", 20, "20.1"),
-        ("k@10.3=a k/a@20.1=b", "k/a", 19, "10.3"),
-        ("k@10.3=a k/a@20.1=b", "k", 30, "10.3"),
-        ("k@10.3=a k/a@20.1=b", "k/b", 30, "10.3"),
+        ("k@10.3=a k/a@20.1=b", "k/a", 20, "20.1 2"),
+        ("k@10.3=a k/a@20.1=b", "k/a", 19, "10.3 1"),
+        ("k@10.3=a k/a@20.1=b", "k", 30, "10.3 1"),
+        ("k@10.3=a k/a@20.1=b", "k/b", 30, "10.3 1"),
         ("k@10.3=a k/a@20.1=b", "k", 9, "-"),
-        ("k@10.3=a k/a@10.4=b", "k/a/x", 10, "10.4"),
-        ("k@10.4=- k/a@10.3=b", "k/a/x", 10, "10.4"),
+        ("k@10.3=a k/a@10.4=b", "k/a/x", 10, "10.4 2"),
+        ("k@10.4=- k/a@10.3=b", "k/a/x", 10, "10.4 1"),
     ];
     for (text, place, micros, told) in rows {
         let versions = versions(rt.alloc(), text)?;
         let place = path(rt.alloc(), place)?;
         let said = match versions.decided_at(&place, time(micros)?) {
             None => format!(in rt.alloc(); "-")?,
-            Some(Decided { at, number }) => {
+            Some(Decided { at, number, parts }) => {
                 let micros = at.micros();
-                format!(in rt.alloc(); "{micros}.{number}")?
+                format!(in rt.alloc(); "{micros}.{number} {parts}")?
             }
         };
         assert_eq!(rt; said.as_str(), told, "{text} {micros}");

@@ -11,9 +11,10 @@ use txn_types::{Bytes, MetAt, Paths, Rows, Version, Window};
 /// does not matter. Each path that a call is given has to fit.
 pub trait Versions {
     ghost use Rattle.std.specs.Prelude.{◌≡◌, ◌↔◌, List, [], IfOk, OnOk, OnErr};
-    ghost use Rattle.std.specs.List.{All};
+    ghost use Rattle.std.specs.List.{All, AllByRecursion};
     ghost use Rattle.doc_path.specs.Path.{Parts};
     ghost use Rattle.txn_data.specs.declared.version.Version.{Version as Seen};
+    ghost use Rattle.txn_data.specs.declared.row.Row.{Row as Read};
     ghost use Rattle.txn_types.specs.Lists.{Member};
     ghost use Rattle.txn_types.specs.Writes.{value, beneath};
     ghost use Rattle.txn_types.specs.Tablet.{with_versions, writes_at, greatest_above, met_in};
@@ -50,7 +51,8 @@ pub trait Versions {
     /// All paths at or beneath `path` that have a value at the time `t`, each with its value, in path order.
     fn scan_at(&self, path: &Path, t: HybridTime) -> Result<Rows, Memory>
         requires { fits path.now }
-        ensures { (vs : List Seen) → holds self.now vs → IfOk result (λ rows. rows ≡ beneath (writes_at t vs) path.now) };
+        ensures rows { (vs : List Seen) → holds self.now vs → IfOk result (λ rows. rows ≡ beneath (writes_at t vs) path.now) }
+        ensures fit { IfOk result (λ rows. AllByRecursion (λ (r : Read). fits r.path) rows) };
 
     /// The greatest commit time above `t` of a version on a path that is related to `path`. It takes no memory.
     fn newest_related_above(&self, path: &Path, t: HybridTime) -> Option<HybridTime>
@@ -64,8 +66,8 @@ pub trait Versions {
         requires { All fits paths.now }
         ensures { (vs : List Seen) → holds self.now vs → IfOk result (λ met. met ≡ met_in w.now t paths.now vs) };
 
-    /// The commit time and the write number of the newest version up to the time `t` whose path is a prefix of `path`. It
-    /// takes no memory.
+    /// The commit time and the write number of the newest version up to the time `t` whose path is a prefix of `path`, and
+    /// how many parts its path has. It takes no memory.
     fn decided_at(&self, path: &Path, t: HybridTime) -> Option<Decided>
         requires { fits path.now }
         ensures { (vs : List Seen) → holds self.now vs → result ≡ decided t path.now vs };
