@@ -30,7 +30,7 @@ same_of : (b a : Actor) → b ≡ a → same_actor b a ≡ true
 same_of b a e = subst (λ (x : Actor). same_actor x a ≡ true) (sym e) (same_self a)
 
 -- the entries that count, where the next restart keeps what had failed or does not
-unfoldable counting_if : Bool → History → History
+unfoldable pub counting_if : Bool → History → History
 counting_if b [] = []
 counting_if b (e ∷ h) =
     cond (event_counts e.event b) (e ∷ counting_if (kept_by e.event b) h) (counting_if (kept_by e.event b) h)
@@ -50,7 +50,7 @@ counting_is a later (e ∷ h) rests =
     ap (λ (k : Bool). cond (event_counts e.event k) (e ∷ counting_before (e ∷ later) h) (counting_before (e ∷ later) h)) next
     ∙ ap (λ (cs : History). cond (event_counts e.event (next_restart_kept a later)) (e ∷ cs) cs) rest
 
-counting_all : (a : Actor) (h : History) → RestsDown a h → counting h ≡ counting_if false h
+pub counting_all : (a : Actor) (h : History) → RestsDown a h → counting h ≡ counting_if false h
 unfolding next_restart_kept
 counting_all a h rests = counting_is a [] h rests
 
@@ -62,7 +62,7 @@ counting_restarted a h reading from kept rests =
     ∙ ap (λ (b : Bool). counting_if b h) (kept_next a (entry a reading (Restarted from kept)) [] refl)
 
 -- without a failed append it does not matter
-abbrev Same : History → Type 0
+abbrev pub Same : History → Type 0
 Same h = has_failed h ≡ false → (b : Bool) → counting_if b h ≡ counting_if false h
 
 same_after : (a : Actor) (reading : Option ℕ) (ev : Event) (h : History) → Same h → Same (entry a reading ev ∷ h)
@@ -76,7 +76,7 @@ same_after a reading (Hear from r) h ih none b = ih none b
 same_after a reading (Tell command told) h ih none b = ih none b
 same_after a reading (Restarted from kept) h ih none b = refl
 
-counting_same : (h : History) → Same h
+pub counting_same : (h : History) → Same h
 unfolding counting_if
 counting_same [] none b = refl
 counting_same (e ∷ h) none b = same_after e.actor e.reading e.event h (counting_same h) none b

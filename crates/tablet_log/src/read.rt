@@ -82,6 +82,7 @@ pub fn replay<L: LogStore>(log: &mut L, alloc: Global) -> Result<Vec<LogRecord>,
     // It speaks of the bytes only where the store loaded them.
     ensures loads { L.loads log.old ≤ L.loads log.new }
     ensures loaded { OnOk result (Rose (L.loads log.old) (L.loads log.new)) }
+    ensures unloaded { IsErrOf result ReplayRefusal.LogFault → L.loads log.new ≡ L.loads log.old }
     ensures loaded_broken { (offset : ℕ) → result ≡ Err (ReplayRefusal.LogBad offset) → Rose (L.loads log.old) (L.loads log.new) }
 {
     let mut bytes = Vec::new(alloc);

@@ -1,0 +1,10 @@
+pub mod Parts
+pub mod Whole
+pub mod Begun
+pub mod Acting
+pub mod Loading
+pub mod Same
+pub mod Advancing
+pub mod Taken
+pub mod Rise
+pub mod Holding

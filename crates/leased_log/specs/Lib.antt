@@ -1,0 +1,7 @@
+pub mod Allows
+pub mod Stands
+pub mod Decides
+pub mod Acts
+pub mod Loads
+pub mod Times
+pub mod Laws
