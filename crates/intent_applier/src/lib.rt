@@ -4,6 +4,7 @@
 //! for its tablet. `next` tells what comes next in it, and `hear` goes on in it with a reply.
 #![tactic(auto)]
 
+pub mod laws;
 mod pass;
 mod pass_turn;
 mod stage;

@@ -59,8 +59,8 @@ impl Pass {
         Ok(self.turn())
     }
 
-    /// Goes on with the reply to what it asked. It takes memory for the list of transactions alone; after want of memory it
-    /// is as before. Once it is told something, a reply changes nothing.
+    /// Goes on with the reply to what it asked. It may take memory as long as it asks, but for no refusal; after want of
+    /// memory it is as before. Once it is told something, a reply changes nothing.
     pub fn hear(&mut self, reply: &Reply) -> Result<(), Memory>
         ensures ok { OnOk result (rest self.new ≡ heard (rest self.old) reply.now) }
         ensures memory { OnErr result (self.new ≡ self.old) }

@@ -1,2 +1,3 @@
 pub mod Rest
 pub mod Stage
+pub mod Laws

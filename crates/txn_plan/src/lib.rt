@@ -5,6 +5,7 @@
 //! Begin, a Write, a Single, a Commit or an Abort takes memory.
 #![tactic(auto)]
 
+pub mod laws;
 mod stage;
 #[cfg(test)]
 mod tests;
@@ -13,3 +14,4 @@ mod txn_turn;
 
 pub use txn_plan::TxnPlan;
 pub use txn_turn::TxnTurn;
+pub use txn_types::TxnStep;

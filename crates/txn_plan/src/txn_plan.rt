@@ -49,8 +49,8 @@ impl TxnPlan {
         })
     }
 
-    /// What it asks next, or what it is told. It changes nothing, and takes memory for a ListWrite, a Write, a Single and a
-    /// Commit alone.
+    /// What it asks next, or what it is told. It changes nothing. It may take memory where a step that writes asks anything
+    /// but its Abort, and for a Commit.
     pub fn next(&mut self) -> Result<TxnTurn, Memory>
         ensures turn { IfOk result (λ next. turn_of next ≡ turn (rest self.old)) }
         ensures same { self.new ≡ self.old }
@@ -59,8 +59,8 @@ impl TxnPlan {
         self.turn()
     }
 
-    /// Goes on with the reply to what it asked. It takes memory for a list of transactions and for a fate; after want of
-    /// memory it is as before. Once it is told something, a reply changes nothing.
+    /// Goes on with the reply to what it asked. It may take memory after the same requests, but for no refusal, nor for the
+    /// reply that ends the step; after want of memory it is as before. Once it is told something, a reply changes nothing.
     pub fn hear(&mut self, reply: &Reply) -> Result<(), Memory>
         ensures ok { OnOk result (rest self.new ≡ heard (rest self.old) reply.now) }
         ensures memory { OnErr result (self.new ≡ self.old) }

@@ -1,0 +1,5 @@
+pub mod Rest
+pub mod Stage
+pub mod Found
+pub mod Laws
+pub mod Visits
