@@ -15,7 +15,7 @@ use Rattle.txn_types.specs.History.{History}
 use Rattle.txn_types.specs.Session.{Keeps, Opened, opens, after_write, after_end, after_read, opened_after}
 use Rattle.txn_types.specs.Reads.{began_time, read_time}
 use Rattle.run_owners.specs.Owner.{owner_of}
-use Rattle.run_sessions.proofs.Open.{number_of}
+use Rattle.run_opened.proofs.Open.{number_of}
 use Rattle.run_apart.proofs.Steps.{first_read, IsSilent, Same}
 
 -- of session i, whose serial number this is

@@ -7,6 +7,7 @@ use Rattle.txn_data.specs.declared.config.Config.{Config}
 use Rattle.txn_data.specs.declared.row.Row.{Row}
 use Rattle.txn_data.specs.declared.request.Request.TheVariants as request
 use Rattle.txn_data.specs.declared.told.Told.TheVariants as told
+use Rattle.txn_data.specs.declared.reply.Reply.TheVariants as reply
 use Rattle.txn_data.specs.declared.event.Event.{Event}
 use Rattle.txn_data.specs.declared.event.Event.TheVariants.{Serve, Tell}
 use Rattle.txn_data.specs.declared.entry.Entry.{Entry}
@@ -17,11 +18,11 @@ use Rattle.txn_types.specs.Reads.{reads, reads_by, first_read_time, began_time, 
 use Rattle.txn_types.specs.Run.{Run, Steps, mover_at}
 use Rattle.run_machines.specs.Own.{StandsOver}
 use Rattle.run_machines.proofs.Basics.{eq_cases}
-use Rattle.run_machines.proofs.Owns.{steps_at, member_stands, stands_trans}
+use Rattle.run_machines.proofs.Owns.{member_stands, stands_trans, run_until}
 use Rattle.run_owners.specs.Owner.{owner_of, IsHomedAt}
 use Rattle.run_owners.proofs.Serials.{id_owner, id_number}
 use Rattle.run_owners.proofs.Runs.{requests_homed}
-use Rattle.run_sessions.proofs.Open.{number_of}
+use Rattle.run_opened.proofs.Open.{number_of}
 use Rattle.run_messages.proofs.Rules.{entry}
 use Rattle.run_read_times.specs.Laws.{IsReadLine, IsUp, IsToldAt, WasOpen, ReadsAsOpen}
 use Rattle.run_read_times.proofs.Runs.{reads_up, writes_as_open}
@@ -140,10 +141,6 @@ time_rises config (f ∷ h) g e x run stands =
 
 -- ## no write reads above the read time of its transaction
 
-run_at : (config : Config) (h before : History) (e : Entry) → Run config h → StandsOver e before h → Run config before
-unfolding Steps
-run_at config h before e run stands = (run.0, (steps_at config e before h run.1 stands).0)
-
 open_time : (config : Config) (z : History) (i : ℕ) (o : Option Opened) (y : Opened) (x : ℕ) → OpenedRead config z i (mover_at config (Session i) z).keeps.serial o → o ≡ Some y → y.meta.txn ≡ x → read_time config z x ≡ y.r
 open_time config z i (Some w) y x ok is same =
     let w_is : w ≡ y = cc in
@@ -154,7 +151,7 @@ open_time config z i None y x ok is same = cc
 write_time : (config : Config) (h before : History) (i x read : ℕ) (m : Actor) → Run config h → Run config before → ((z : History) (f : Entry) → StandsOver f z before → StandsOver f z h) → m ≡ Session i → WasOpen config before m x read → read ≤ read_time config h x
 write_time config h before i x read m run run_before on is was =
     let z = was.1 in
-    let run_z : Run config z = run_at config before z was.0 run_before was.2 in
+    let run_z : Run config z = run_until config before z was.0 run_before was.2 in
     let o = was.3 in
     let opened : (mover_at config (Session i) z).keeps.opened ≡ Some o.0 = subst (λ (a : Actor). (mover_at config a z).keeps.opened ≡ Some o.0) is o.1 in
     let time : read_time config z x ≡ o.0.r = open_time config z i (mover_at config (Session i) z).keeps.opened o.0 x (sessions_read config z run_z i).opened opened o.2 in
@@ -163,7 +160,7 @@ write_time config h before i x read m run run_before on is was =
     omega (arith, time, le, read_is)
 
 writes_from : (config : Config) (h before : History) (y c : ℕ) (a : Actor) (event : Event) → Run config h → Run config before → ((z : History) (f : Entry) → StandsOver f z before → StandsOver f z h) → IsHomedAt config a event → ReadsAsOpen config before event → WritesFrom y c event → c ≤ read_time config h y
-writes_from config h before y c a (Serve from (request.Write meta number path op read seen fates) r time append) run run_before on homed was of =
+writes_from config h before y c a (Serve from (request.Write meta number path op read seen fates) (reply.Written w) time append) run run_before on homed was of =
     let le = write_time config h before (owner_of meta.txn) meta.txn read from run run_before on homed.0.0 was in
     let c_le = of.1 in
     subst (λ (n : ℕ). c ≤ read_time config h n) of.0 (omega (arith, le, c_le))
@@ -173,7 +170,7 @@ above_time : (config : Config) (h : History) (x y : CommittedTxn) → Run config
 above_time config h x y run above =
     let f = above.0 in
     let at = member_stands f h above.1 in
-    writes_from config h at.0 y.txn x.at f.actor f.event run (run_at config h at.0 f run at.1) (λ z g inside. stands_trans g f z at.0 h inside at.1) (requests_homed config h f run above.1) (writes_as_open config h at.0 f run at.1) above.2
+    writes_from config h at.0 y.txn x.at f.actor f.event run (run_until config h at.0 f run at.1) (λ z g inside. stands_trans g f z at.0 h inside at.1) (requests_homed config h f run above.1) (writes_as_open config h at.0 f run at.1) above.2
 
 pub related_apart : RelatedAreApart
 related_apart config h x y run agree of_x of_y other rel = elim (commits_read_above config h x y run agree of_x of_y other rel) [

@@ -19,7 +19,7 @@ use Rattle.txn_types.specs.Run.{Mover, mover_at, mover_after, kept_after, sessio
 use Rattle.run_machines.proofs.Basics.{eq_cases, eq_refl, same_cases}
 use Rattle.run_owners.specs.Owner.{owner_of}
 use Rattle.run_owners.proofs.Serials.{id_owner, id_number, serial_least}
-use Rattle.run_sessions.proofs.Open.{number_of}
+use Rattle.run_opened.proofs.Open.{number_of}
 use Rattle.run_messages.proofs.Rules.{entry}
 use Rattle.run_read_times.specs.Laws.{IsReadLine, IsBeginLine}
 use Rattle.run_apart.proofs.Steps.{or_none, first_read, IsSilent, Same, silent_same}

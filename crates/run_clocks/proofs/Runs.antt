@@ -18,7 +18,7 @@ use Rattle.txn_types.specs.Tablet.{local_limit}
 use Rattle.txn_types.specs.Run.{Run}
 use Rattle.run_machines.specs.Own.{StandsOver, time_of, ServesNext}
 use Rattle.run_machines.proofs.Counted.{counting_own, own_all, counts_for_good, counts_served, WasServed}
-use Rattle.run_machines.proofs.Owns.{serves_own, serves_at, serves_before, stands_own, stands_member, member_own, member_counted, counted_counting, member_stands}
+use Rattle.run_machines.proofs.Owns.{serves_own, serves_at, serves_before, stands_own, member_own, member_counted, counted_counting, member_stands}
 use Rattle.run_clocks.specs.Laws.{TookOwn, floor_at, Listing, Adds, Reached, TimesRise, TimesKeepFloors, CountsForGood, LeasesCover, LastIsGreatest, PendingPromises, ListingsReach, ListingsPromise}
 use Rattle.run_clocks.proofs.Answered.{ask_answered, list_answered}
 use Rattle.run_clocks.proofs.Rise.{covers, is_top, past_counted, past_floor, timed_whole}
@@ -61,10 +61,6 @@ serves_event : (config : Config) (j : Entry) (h : History) (event : Event) → R
 serves_event config j h event run m is =
     let at = member_stands j h m in
     (own j.actor at.0, subst (λ (ev : Event). ServesNext config.lease_us j.actor (own j.actor at.0) j.reading ev) is (serves_at config j at.0 h run.1 at.1))
-
--- the run up to an entry
-run_before : (config : Config) (f : Entry) (before h : History) → Run config h → StandsOver f before h → Member f h
-run_before config f before h run stands = stands_member f before h stands
 
 pub member_before : (j f : Entry) (before h : History) → Member j before → StandsOver f before h → Member j h
 member_before j f before [] m stands = absurd stands

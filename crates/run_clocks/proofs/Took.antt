@@ -39,7 +39,7 @@ next_above last floor r c is =
     let l = chosen_next (nat_lt greatest_reading r) (max last floor) r c is in
     let m : max last floor < c = l.0 in (omega arith, omega arith, l.1)
 
-chosen_least : (t : Bool) (m r c : ℕ) → (if t then Err (ClockRange r) else Ok m) ≡ Ok c → m ≡ c
+pub chosen_least : (t : Bool) (m r c : ℕ) → (if t then Err (ClockRange r) else Ok m) ≡ Ok c → m ≡ c
 chosen_least true m r c is = cc
 chosen_least false m r c is = cc
 
@@ -78,7 +78,7 @@ pub record TookTime (lease : ℕ) (o : History) (kind : Kind) (floor r y : ℕ) 
   pub free : holds (lease_end lease o) (has_given o) r ≡ false
   pub clock : clock_time kind (last_time o) floor r ≡ Ok y
 
-logged_time : (fails due : Bool) (time : Option ℕ) (r : Reply) → (logged fails due time r).time ≡ time
+pub logged_time : (fails due : Bool) (time : Option ℕ) (r : Reply) → (logged fails due time r).time ≡ time
 logged_time fails false time r = refl
 logged_time false true time r = refl
 logged_time true true time r = refl

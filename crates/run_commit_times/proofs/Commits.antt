@@ -9,44 +9,38 @@ use Rattle.txn_data.specs.declared.command.Command.TheVariants as command
 use Rattle.txn_data.specs.declared.config.Config.{Config}
 use Rattle.txn_data.specs.declared.reply.Reply.{Reply}
 use Rattle.txn_data.specs.declared.request.Request.TheVariants as request
-use Rattle.txn_data.specs.declared.told.Told.{Told}
 use Rattle.txn_data.specs.declared.told.Told.TheVariants as told
 use Rattle.txn_data.specs.declared.event.Event.{Event}
 use Rattle.txn_data.specs.declared.event.Event.TheVariants.{Serve, Tell}
 use Rattle.txn_data.specs.declared.entry.Entry.{Entry}
 use Rattle.txn_types.specs.Lists.{Member, or_else, or_zero}
 use Rattle.txn_types.specs.History.{History}
-use Rattle.txn_types.specs.Program.{Program}
 use Rattle.txn_types.specs.Reads.{Read, reads, inside, is_inside, first_read_time, began_by, began_time, before_start, met_since}
 use Rattle.txn_types.specs.Session.{Keeps, moved_by}
-use Rattle.txn_types.specs.Run.{Run, Steps, Mover, Flight, Quiet, Asked, Answered, flight, mover_at, kept_after, session_of}
+use Rattle.txn_types.specs.Run.{Run, Steps, Mover, mover_at, kept_after, session_of}
 use Rattle.run_machines.specs.Own.{StandsOver}
 use Rattle.run_machines.proofs.Basics.{eq_true, same_cases, same_refl}
 use Rattle.run_machines.proofs.Owns.{steps_at, member_stands, stands_member}
-use Rattle.run_messages.proofs.Rules.{Rules, Stage, stage_of, entry, Now}
-use Rattle.run_messages.proofs.Safe.{MoverIs, Rests}
-use Rattle.run_messages.proofs.Runs.{kept_by}
+use Rattle.run_messages.proofs.Rules.{entry}
 use Rattle.run_owners.specs.Owner.{owner_of, IsHomedAt}
 use Rattle.run_owners.proofs.Serials.{id_owner, id_number}
 use Rattle.run_owners.proofs.Runs.{requests_homed}
 use Rattle.run_fates.specs.Laws.{CommittedAt}
-use Rattle.run_sessions.proofs.Open.{IdleOk, TouchesUpTo, number_of}
-use Rattle.run_sessions.proofs.Open.{rules as session_rules}
-use Rattle.run_sessions.proofs.Commands.{keeping as session_keeping}
-use Rattle.run_sessions.proofs.Runs.{commit_of}
+use Rattle.run_opened.proofs.Open.{TouchesUpTo, number_of}
+use Rattle.run_sessions.proofs.Runs.{commit_of, idle_ok}
 use Rattle.run_read_times.specs.Laws.{IsBeginLine, IsToldAt}
 use Rattle.run_read_times.proofs.Runs.{reads_up}
 use Rattle.run_courses.proofs.Parts.{part_stands, stands_part}
 use Rattle.run_apart.proofs.Steps.{start_keeps}
-use Rattle.run_steady.proofs.Follows.{Outer, Final}
-use Rattle.run_steady.proofs.Finals.{Timed, timed_at, can_final}
+use Rattle.run_steady.proofs.Follows.{Final}
+use Rattle.run_steady.proofs.Finals.{timed_at, can_final}
 use Rattle.run_steady.proofs.FinalTimes.{part_start, part_steps}
-use Rattle.run_steady.proofs.Steady.{last_rises}
+use Rattle.run_steady.proofs.Steady.{last_rises, timed_begin, begin_some}
 use Rattle.run_considered.proofs.Shown.{Earlier, Later, Same, places}
 use Rattle.run_right.proofs.Floors.{commit_floor}
 use Rattle.run_right.proofs.Starts.{under_way}
 use Rattle.run_right.proofs.Starts.{start_of as began_at}
-use Rattle.run_right.proofs.Above.{commits_above_reads}
+use Rattle.run_right.proofs.Above.{commits_above_reads, same_line}
 use Rattle.run_commit_times.specs.Laws.{CommitsAreAboveReadTimes}
 
 -- ## a first finished read
@@ -117,10 +111,6 @@ begun_is x at (e ∷ h) is = either_begun x at (began_time x h) e h refl is (beg
 
 -- ## the time told is not above its session's time then
 
-timed_begin : (s : Keeps) (own_reading : Option ℕ) (mets : List ℕ) (p : Program Told) (line : Option Command) → IsBeginLine line → Timed s own_reading mets p line → Outer s own_reading mets p
-timed_begin s o mets p (Some (command.Begin priority)) of timed = timed
-timed_begin s o mets p line of timed = absurd of
-
 taken_up : (last : ℕ) (reading : Option ℕ) → max last (time_at (or_zero reading) 0) ≤ max (moved_by last reading) 0
 taken_up last None = omega arith
 taken_up last (Some r) = omega arith
@@ -143,19 +133,6 @@ began_taken config h j reading number y at run of =
 
 -- ## its commit comes later
 
-rests_idle : (R : Rules) (config : Config) (m : Actor) (z : History) (c : Stage) (h : History) (p : Program Told) (line : Option Command) (f : Flight) → MoverIs R config m z c h p line f → line ≡ None → Rests R config m h c.keeps
-rests_idle R config m z c h p None Quiet is none = is
-rests_idle R config m z c h p None (Asked a q) is none = absurd is
-rests_idle R config m z c h p None (Answered by r) is none = absurd is
-rests_idle R config m z c h p (Some line) f is none = cc
-
-idle_ok : (config : Config) (h : History) (i : ℕ) → Run config h → (mover_at config (Session i) h).line ≡ None → IdleOk config h (Session i) (mover_at config (Session i) h).keeps
-idle_ok config h i run none =
-    let m = Session i in
-    let s = mover_at config m h in
-    let rests : Rests (session_rules config) config m h s.keeps = rests_idle (session_rules config) config m (before_start m h) (stage_of s) h s.rest s.line (flight m h) ((kept_by (session_rules config) config (session_keeping config run.0) h run.1).movers m) none in
-    rests h Now
-
 -- a served commit leaves the line of a session
 commit_other : (config : Config) (a : Actor) (reading : Option ℕ) (from : Actor) (y floor : ℕ) (tablets : List ℕ) (r : Reply) (time : Option ℕ) (append : Append) (h : History) (i : ℕ) →
     (mover_at config (Session i) (entry a reading (Serve from (request.Commit y floor tablets) r time append) ∷ h)).line ≡ (mover_at config (Session i) h).line
@@ -165,16 +142,9 @@ commit_other config a reading from y floor tablets r time append h i = elim (sam
   | inr s ↦ rw s.0 refl
 ]
 
-begin_some : (o : Option Command) → IsBeginLine o → (line : Command) × (o ≡ Some line)
-begin_some (Some line) of = (line, refl)
-begin_some None of = absurd of
-
 begin_not_commit : (line : Command) → IsBeginLine (Some line) → line ≡ command.Commit → ⊥
 begin_not_commit (command.Begin priority) of is = cc
 begin_not_commit line of is = of
-
-same_line : (line : Command) (o : Option Command) → o ≡ Some line → o ≡ Some command.Commit → line ≡ command.Commit
-same_line line o one two = cc
 
 -- a commit of a transaction is served after its begin was told, with a floor not below the time told
 floor_above : (config : Config) (h before zk : History) (j : ℕ) (own a : Actor) (reading read_at : Option ℕ) (number x at floor : ℕ) (from : Actor) (tablets : List ℕ) (r : Reply) (time : Option ℕ) (append : Append) → Run config h → own ≡ Session j →

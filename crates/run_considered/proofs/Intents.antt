@@ -25,10 +25,10 @@ use Rattle.run_sessions.proofs.Runs.{commits_above}
 use Rattle.run_kept.proofs.Kept.{intent_made}
 use Rattle.run_kept.proofs.Landing.{Makes}
 use Rattle.run_order.specs.Laws.{IsCommittedWrite}
-use Rattle.run_order.proofs.Order.{in_commit_order}
+use Rattle.run_order.proofs.Order.{in_commit_order, write_txn}
 use Rattle.run_versions.specs.Laws.{IsFront}
 use Rattle.run_versions.proofs.Answered.{write_told}
-use Rattle.run_values.proofs.Paths.{prefix_self}
+use Rattle.run_values.proofs.Paths.{self_related}
 
 -- the entry that wrote it
 pub record WroteIt (h : History) (k c : ℕ) (p : Intent) : Type 0 where
@@ -63,14 +63,6 @@ wrote_it config h before k c p run front m committed =
     let place = member_stands e h here in
     let served : ServesNext config.lease_us a (own a place.0) e.reading e.event = subst (λ (d : Actor). ServesNext config.lease_us d (own d place.0) e.reading e.event) actor (serves_at config e place.0 h run.1 place.1) in
     record { entry = e; member = here; actor = actor; write = made_write config h place.0 k c e p e.event run here place.1 actor refl served committed made.2 }
-
-write_txn : (h : History) (x y c d : ℕ) (p q : Parts) (e : Entry) (event : Event) → IsCommittedWrite h x c p e event → IsCommittedWrite h y d q e event → x ≡ y
-write_txn h x y c d p q e (Serve from (request.Write meta number r op read seen fates) (reply.Written w) time append) one two = sym one.0 ∙ two.0
-write_txn h x y c d p q e (Serve from (request.Single z r op seen fates) answer (Some t) append) one two = sym one.0 ∙ two.0
-write_txn h x y c d p q e event one two = absurd one
-
-self_related : (p : Parts) → related p p ≡ true
-self_related p = rw (prefix_self p) refl
 
 -- two that wrote at one path of a tablet and are committed at one time are of one transaction
 pub same_txn : (config : Config) (h : History) (k c : ℕ) (p q : Intent) → Run config h → WroteIt h k c p → WroteIt h k c q → p.path ≡ q.path → p.meta.txn ≡ q.meta.txn

@@ -20,10 +20,10 @@ use Rattle.txn_types.specs.History.{History}
 use Rattle.txn_types.specs.Clock.{told_only, down_since}
 use Rattle.txn_types.specs.Tablet.{Intent, version_at, txn_of, home_in, founds, first_fate, is_own, commit_time, under_fate, considered, rows_of, writes_at, met_under, collected, local_limit, provisional, versions, tablet_standing}
 use Rattle.txn_types.specs.Run.{Serves}
-use Rattle.run_machines.proofs.Basics.{eq_cases, member_cases, member_right, member_map, filter_member, member_filter}
+use Rattle.run_machines.proofs.Basics.{eq_cases, member_cases, member_right, member_map, filter_member, member_filter, member_rising, sorted_from}
 use Rattle.run_clocks.proofs.Answered.{list_answered}
-use Rattle.run_order.proofs.Found.{member_rising, member_mapped}
-use Rattle.run_values.proofs.Orders.{sorted_from, sorted_into}
+use Rattle.run_order.proofs.Found.{member_mapped}
+use Rattle.run_values.proofs.Orders.{sorted_into}
 
 -- ## a collect
 

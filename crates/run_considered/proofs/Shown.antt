@@ -23,7 +23,7 @@ use Rattle.run_clocks.specs.Laws.{Adds}
 use Rattle.run_clocks.proofs.Runs.{member_before, listings_promise}
 use Rattle.run_fates.proofs.Runs.{pending_above, told_committed}
 use Rattle.run_sessions.proofs.Runs.{commits_above}
-use Rattle.run_sessions.proofs.Tables.{Written, Accepted, Faulty, Turned, written}
+use Rattle.run_opened.proofs.Tables.{Written, Accepted, Faulty, Turned, written}
 use Rattle.run_order.proofs.Found.{first_member}
 use Rattle.run_versions.specs.Laws.{MakesVersion, IsMadeIn}
 use Rattle.run_versions.proofs.Runs.{are_commits, are_writes}

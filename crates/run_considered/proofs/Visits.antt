@@ -24,7 +24,7 @@ use Rattle.txn_types.specs.Tablet.{Intent, version_at, txn_of, first_fate, is_ow
 use Rattle.txn_types.specs.Run.{Run, Steps, Serves}
 use Rattle.run_machines.specs.Own.{StandsOver, piece}
 use Rattle.run_machines.proofs.Basics.{eq_cases, member_left, member_filter}
-use Rattle.run_machines.proofs.Owns.{steps_at, stands_member, stands_own, stands_trans, member_own, own_member, member_counted, counted_counting}
+use Rattle.run_machines.proofs.Owns.{steps_at, stands_member, stands_own, stands_trans, member_own, own_member, member_counted, counted_counting, run_until}
 use Rattle.run_machines.proofs.Since.{own_stands}
 use Rattle.run_clocks.proofs.Answered.{list_answered}
 use Rattle.run_clocks.proofs.Rise.{timed_whole}
@@ -33,7 +33,7 @@ use Rattle.run_owners.specs.Owner.{Uses}
 use Rattle.run_owners.proofs.Runs.{ids_once}
 use Rattle.run_fates.specs.Laws.{CommittedAt}
 use Rattle.run_fates.proofs.Runs.{commits_once, told_committed, told_aborted}
-use Rattle.run_sessions.specs.Laws.{Begun}
+use Rattle.run_opened.specs.Transaction.{Begun}
 use Rattle.run_passes.proofs.Listed.{intent_begun}
 use Rattle.run_forgotten.specs.Laws.{IsForgotten}
 use Rattle.run_forgotten.proofs.Forgotten.{told_absent}
@@ -73,10 +73,6 @@ collect_serves config h low m w k t window answer v run =
     let e = collects h low m w k t window answer v in
     let up_to : Steps config (e ∷ v.before) = steps_at config e v.before h run.1 v.collected in
     up_to.1.2
-
-run_before : (config : Config) (h before : History) (e : Entry) → Run config h → StandsOver e before h → Run config before
-unfolding Steps
-run_before config h before e run stands = (run.0, (steps_at config e before h run.1 stands).0)
 
 -- ## what counts where the tablet listed
 
@@ -163,11 +159,11 @@ fate_item Q config h low m w k t window answer v x p r f fate.Absent run txn is 
     let e = fate_entry m t f a in
     let in_before : StandsOver e a.before v.before = part_stands e a.before v.before told.1 in
     let in_h : StandsOver e a.before h = stands_trans e (collects h low m w k t window answer v) a.before v.before h in_before v.collected in
-    let run_list = run_before config h v.list_before (lists h low m w k t window answer v) run (list_stands h low m w k t window answer v) in
+    let run_list = run_until config h v.list_before (lists h low m w k t window answer v) run (list_stands h low m w k t window answer v) in
     let begun = intent_begun config k v.list_before p run_list mp in
     let begun_then : Begun a.before p.meta.txn = (begun.0, part_member begun.0 (lists h low m w k t window answer v ∷ v.list_before) a.before told.2 (inr begun.1), begun.2) in
     let gone : IsForgotten a.before p.meta.txn x.at = told_absent config h a.before e p.meta.txn x.at run in_h begun_then (txn, is) committed in
-    let run_collect = run_before config h v.before (collects h low m w k t window answer v) run v.collected in
+    let run_collect = run_until config h v.before (collects h low m w k t window answer v) run v.collected in
     absurd (forgotten_none config v.before p.meta.txn x.at k r run_collect (forgotten_later v.before a.before e p.meta.txn x.at in_before gone) mr same)
 fate_item Q config h low m w k t window answer v x p r f (fate.Committed d) run txn is told first mp committed mine clear mr same now =
     let a = told.0 in
@@ -212,7 +208,7 @@ write_item : (Q : ℕ → Type 0) (config : Config) (h low : History) (m : Actor
     Member x (considered w.own_txn v.fates (provisional (own (Tablet k) v.before)) (versions (own (Tablet k) v.before)))
 write_item Q config h low m w k t window answer v x path run clear low_wrote of rel there later = elim there [
   | inl version ↦
-      let run_collect = run_before config h v.before (collects h low m w k t window answer v) run v.collected in
+      let run_collect = run_until config h v.before (collects h low m w k t window answer v) run v.collected in
       member_left x (versions (own (Tablet k) v.before)) _ (stay config v.before v.list_before k x run_collect (inr (lists h low m w k t window answer v, v.listed)) version)
   | inr waits ↦
       let p = waits.0 in
@@ -245,7 +241,7 @@ item_event Q config h low m w k t window answer v x path e (Serve from (request.
     let at_list : CountsIn v.list_before e e.event = subst (λ (ev : Event). CountsIn v.list_before e ev) (sym is) counts in
     let there : IsThere h x (versions (own (Tablet k) v.list_before)) (provisional (own (Tablet k) v.list_before)) event =
     subst (λ (ev : Event). IsThere h x (versions (own (Tablet k) v.list_before)) (provisional (own (Tablet k) v.list_before)) ev) is (are_there config h v.list_before e k x run (inr (l, list_stands h low m w k t window answer v)) actor at_list makes_e) in
-    write_item Q config h low m w k t window answer v x path run clear low_wrote of rel (inl there) (λ waits. inl (stay config v.before v.list_before k x (run_before config h v.before (collects h low m w k t window answer v) run v.collected) (inr (l, v.listed)) there))
+    write_item Q config h low m w k t window answer v x path run clear low_wrote of rel (inl there) (λ waits. inl (stay config v.before v.list_before k x (run_until config h v.before (collects h low m w k t window answer v) run v.collected) (inr (l, v.listed)) there))
 item_event Q config h low m w k t window answer v x path e event run clear low_wrote of rel member actor is makes = absurd makes
 
 -- what the tablet took before the listing, and not above its limits, the collect considers as what it becomes, where the

@@ -16,6 +16,11 @@ unfolding IsPart
 part_refl [] = refl
 part_refl (e ∷ h) = inl refl
 
+pub part_none : (h : History) → IsPart [] h
+unfolding IsPart
+part_none [] = refl
+part_none (e ∷ h) = inr (part_none h)
+
 pub part_more : (low : History) (e : Entry) (h : History) → IsPart low h → IsPart low (e ∷ h)
 unfolding IsPart
 part_more low e h part = inr part

@@ -33,6 +33,7 @@ CameAt config h (Tell number t) m g =
     CameAbout config m g (before_start m h) (mover_at config m h).keeps (mover_at config m h).reading (mover_at config m h).line t
 CameAt config h event m g = Unit {0}
 
--- each told command came about by the answers to its requests, one after another since its start
+-- each told command came about by the answers to its requests, one after another since its start, where want of memory may
+-- have been heard in place of one; or want of memory is told
 abbrev pub ToldCommandsCameAbout : Type 0
 ToldCommandsCameAbout = (config : Config) (h before : History) (e : Entry) → Run config h → StandsOver e before h → CameAt config before e.event e.actor (e ∷ before)

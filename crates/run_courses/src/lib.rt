@@ -1,7 +1,8 @@
 //! What each told command asked and heard, in every run.
 //!
 //! The law of the courses of commands, for every history that is a run: each command that is told came about by its
-//! program, whose requests were answered by entries one after another since its start. A call does nothing.
+//! program, whose requests were answered by entries one after another since its start, where want of memory may have been
+//! heard in place of an answer; or want of memory is told. Of a restart only the answer is said. A call does nothing.
 #![tactic(auto)]
 
 mod laws;

@@ -256,7 +256,7 @@ resolve_event x l (Serve from (request.Resolve y by priority) r time append) ok 
     rw same (ap died is_open)
 resolve_event x l event ok before is = absurd is
 
-dead_stays : (v w : Life) → IsNotBefore v w → v ≡ Dead → w ≡ Dead
+pub dead_stays : (v w : Life) → IsNotBefore v w → v ≡ Dead → w ≡ Dead
 dead_stays v w step is = subst (λ (z : Life). IsNotBefore z w) is step
 
 pub resolve_dead : (x : ℕ) (l : History) (e : Entry) → Lands LandOk l → Member e l → IsResolve x e.event → life x l ≡ Dead

@@ -1,5 +1,5 @@
 -- The laws of what becomes of a transaction in every run.
-use Rattle.std.proofs.Common.{◌≡◌, ℕ, ◌<◌, true, false, ◌∷◌, Option, Some, refl, sym, ◌∙◌, ap, subst, inl, inr, arith}
+use Rattle.std.proofs.Common.{◌≡◌, ℕ, ◌<◌, true, false, Option, Some, refl, sym, ◌∙◌, ap, subst, inl, inr, arith}
 use Rattle.txn_data.specs.declared.actor.Actor.{Actor}
 use Rattle.txn_data.specs.declared.actor.Actor.TheVariants.{Status}
 use Rattle.txn_data.specs.declared.append.Append.{Append}
@@ -17,11 +17,11 @@ use Rattle.txn_types.specs.Lists.{Member}
 use Rattle.txn_types.specs.History.{History, own, was_logged, counting, standing}
 use Rattle.txn_types.specs.Committed.{snapshot_by, committed_snapshots, writes}
 use Rattle.txn_types.specs.Status.{record_of}
-use Rattle.txn_types.specs.Run.{Run, Steps}
+use Rattle.txn_types.specs.Run.{Run}
 use Rattle.run_machines.specs.Own.{landed, StandsOver, ServesNext, time_of}
 use Rattle.run_machines.proofs.Basics.{member_flat, flat_member, filter_member, member_filter}
-use Rattle.run_machines.proofs.Counted.{counting_own, own_all, counts_served, WasServed, counted_member}
-use Rattle.run_machines.proofs.Owns.{serves_own, serves_at, stands_own, stands_member, member_own, own_member, member_counted, counted_counting, member_stands, steps_at, serves_all_at, serves_all_rest, serves_all_first, serves_all_own}
+use Rattle.run_machines.proofs.Counted.{counting_own, own_all, counts_served, WasServed}
+use Rattle.run_machines.proofs.Owns.{serves_own, serves_at, stands_own, stands_member, member_own, member_counted, counted_counting, member_stands, serves_all_at, serves_all_rest, serves_all_first, serves_all_own, counting_part, run_until}
 use Rattle.run_machines.proofs.Landed.{logged, standing_landed}
 use Rattle.run_machines.proofs.Lands.{Lands, grows_over}
 use Rattle.run_owners.specs.Owner.{home_of, IsHomedAt}
@@ -33,7 +33,7 @@ use Rattle.run_clocks.proofs.Rise.{past_counted, past_floor, timed_whole}
 use Rattle.run_clocks.proofs.Runs.{served_is}
 use Rattle.run_fates.proofs.Table.{LandOk, is_logged, commit_is_logged}
 use Rattle.run_fates.proofs.Promised.{Unseen, AboveAt, PieceAbove, Promised, promised_step, promised_from}
-use Rattle.run_fates.proofs.Life.{Life, Open, Finished, Dead, life, IsNotBefore, life_grows, RecordIs, Commits, commit_finished, finished_commit, resolve_dead}
+use Rattle.run_fates.proofs.Life.{Life, Open, Finished, Dead, life, IsNotBefore, life_grows, RecordIs, Commits, commit_finished, finished_commit, resolve_dead, dead_stays}
 use Rattle.run_fates.proofs.Own.{lands_own, own_record}
 use Rattle.run_fates.proofs.Told.{WasTaken, Told, Before, ByCommit, ByResolve, told_at, told_before}
 
@@ -76,9 +76,6 @@ home_counted config x h e run m =
     let stands : Member e (standing (own a h)) = subst (λ (l : History). Member e l) (sym (standing_landed config.lease_us a (own a h) (serves_own config a h run.1) (own_all a h))) m in
     let counts = (filter_member (λ (f : Entry). was_logged f.event) e (counting (own a h)) stands).0 in
     counted_counting e a h (subst (λ (l : History). Member e l) (counting_own a (own a h) (own_all a h)) counts)
-
-counting_part : (e : Entry) (h : History) → Member e (counting h) → Member e h
-counting_part e h m = own_member e e.actor h (counted_member e false (own e.actor h) (member_counted e e.actor h refl m))
 
 -- the entry that committed it
 pub record CommitEntry (config : Config) (h : History) (x c : ℕ) : Type 0 where
@@ -138,19 +135,13 @@ pub commits_once : CommitsOnce
 commits_once config h x c d run one two =
     same_finished (life x (home_log config x h)) c d (committed_finished config h x c run one) (committed_finished config h x d run two)
 
-tells_home : (config : Config) (a : Actor) (x : ℕ) (event : Event) (f : Fate) → IsHomedAt config a event → Tells x event f → a ≡ Status (home_of config x)
+pub tells_home : (config : Config) (a : Actor) (x : ℕ) (event : Event) (f : Fate) → IsHomedAt config a event → Tells x event f → a ≡ Status (home_of config x)
 tells_home config a x (Serve from (request.AskFate y t) (reply.FateIs told) time append) f homed is = homed.0 ∙ ap (λ (w : ℕ). Status (home_of config w)) is.0
 tells_home config a x (Serve from (request.Resolve y by priority) (reply.FateIs told) time append) f homed is = homed.0.1 ∙ ap (λ (w : ℕ). Status (home_of config w)) is.0
 tells_home config a x (Serve from (request.Commit y floor tablets) (reply.Committed d) time append) f homed is = homed.0.1 ∙ ap (λ (w : ℕ). Status (home_of config w)) is.0
+tells_home config a x (Serve from (request.Commit y floor tablets) (reply.AbortedBy by) time append) f homed is = homed.0.1 ∙ ap (λ (w : ℕ). Status (home_of config w)) is.0
 tells_home config a x (Serve from (request.Abort y) (reply.Committed d) time append) f homed is = homed.0.1 ∙ ap (λ (w : ℕ). Status (home_of config w)) is.0
 tells_home config a x event f homed is = absurd is
-
--- the life at an entry, over what stood before it
-life_at : (config : Config) (x : ℕ) (h before : History) (e : Entry) → Run config h → StandsOver e before h → Run config before
-unfolding Steps
-life_at config x h before e run stands =
-    let up_to : Steps config (e ∷ before) = steps_at config e before h run.1 stands in
-    (run.0, up_to.0)
 
 pub record_before : (config : Config) (x : ℕ) (before : History) → Run config before → RecordIs (record_of x (own (Status (home_of config x)) before)) (life x (home_log config x before))
 record_before config x before run =
@@ -183,21 +174,19 @@ taken_served (Ask to asked) is = absurd is
 taken_served (Hear from r) is = absurd is
 taken_served (Tell number t) is = absurd is
 
-taken_counts : (e : Entry) (h : History) → Member e h → WasTaken e.event → Member e (counting h)
+-- what a log took counts
+pub taken_counts : (e : Entry) (h : History) → Member e h → WasTaken e.event → Member e (counting h)
 taken_counts e h m is = counted_counting e e.actor h (counts_served e false (own e.actor h) (member_own e e.actor h refl m) (taken_served e.event is).0)
 
 later_finished : (v w : Life) (c : ℕ) → IsNotBefore v w → v ≡ Finished c → w ≡ Finished c
 later_finished v w c step is = subst (λ (z : Life). IsNotBefore z w) is step
-
-later_dead : (v w : Life) → IsNotBefore v w → v ≡ Dead → w ≡ Dead
-later_dead v w step is = subst (λ (z : Life). IsNotBefore z w) is step
 
 pub told_committed : ToldCommittedIs
 told_committed config h e x c run m tells =
     let t = told_in config h e x (fate.Committed c) run m tells in
     elim t.3 [
       | Before told ↦
-          let before = life_at config x h t.0 e run t.1 in
+          let before = run_until config h t.0 e run t.1 in
           let was = told_before (own (Status (home_of config x)) t.0) x (fate.Committed c) (life x (home_log config x t.0)) (record_before config x t.0 before) told in
           finished_committed config h x c run (later_finished (life x (home_log config x t.0)) (life x (home_log config x h)) c (grown config x h t.0 e t.2 t.1) was)
       | ByCommit d is commits taken ↦
@@ -211,9 +200,9 @@ told_aborted_dead config h e x run m tells =
     let t = told_in config h e x fate.Aborted run m tells in
     elim t.3 [
       | Before told ↦
-          let before = life_at config x h t.0 e run t.1 in
+          let before = run_until config h t.0 e run t.1 in
           let was = told_before (own (Status (home_of config x)) t.0) x fate.Aborted (life x (home_log config x t.0)) (record_before config x t.0 before) told in
-          later_dead (life x (home_log config x t.0)) (life x (home_log config x h)) (grown config x h t.0 e t.2 t.1) was
+          dead_stays (life x (home_log config x t.0)) (life x (home_log config x h)) (grown config x h t.0 e t.2 t.1) was
       | ByCommit d is commits taken ↦ cc
       | ByResolve is resolves taken ↦
           resolve_dead x (home_log config x h) e (home_lands config x h run)
@@ -242,7 +231,7 @@ pending_promised config h e m x t time append run member is =
     let told = told_in config h e x fate.Pending run member tells in
     let b = own a told.0 in
     let o = own a h in
-    let before = life_at config x h told.0 e run told.1 in
+    let before = run_until config h told.0 e run told.1 in
     let all = serves_own config a h run.1 in
     let served : ServesNext lease a b e.reading (Serve m (request.AskFate x t) (reply.FateIs fate.Pending) time append) =
     subst (λ (ev : Event). ServesNext lease a b e.reading ev) is

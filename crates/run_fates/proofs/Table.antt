@@ -17,6 +17,7 @@ use Rattle.txn_types.specs.History.{History, was_logged, standing}
 use Rattle.txn_types.specs.Clock.{Answer, refused, logged, timed, timed_answer, holds, clock_time, Kind, Own, lease_end, last_time, has_given, down_since}
 use Rattle.txn_types.specs.Status.{Record, NoRecord, Pending, Committed, AbortedBy, record_over, record_of, status_answer, status_up, status_standing, resolved, commit_answer, abort_answer, may_forget, is_sure, noted}
 use Rattle.txn_types.specs.Run.{Serves}
+use Rattle.run_clocks.proofs.Took.{logged_time}
 use Rattle.run_owners.specs.Owner.{IsUnused}
 
 abbrev pub IsPending : Record → Type 0
@@ -60,14 +61,9 @@ logged_is from asked r time Nothing is = cc
 logged_is from asked r time Took is = tt
 logged_is from asked r time Failed is = tt
 
-logged_due : (fails due : Bool) (time : Option ℕ) (r : Reply) → IsLogged (logged fails due time r).append → due ≡ true
+pub logged_due : (fails due : Bool) (time : Option ℕ) (r : Reply) → IsLogged (logged fails due time r).append → due ≡ true
 logged_due fails false time r is = absurd is
 logged_due fails true time r is = refl
-
-logged_time : (fails due : Bool) (time : Option ℕ) (r : Reply) → (logged fails due time r).time ≡ time
-logged_time fails false time r = refl
-logged_time false true time r = refl
-logged_time true true time r = refl
 
 given_time : (lease : ℕ) (end : Option ℕ) (fails : Bool) (time : Result ℕ TimeRefusal) (r : ℕ → Reply) → IsLogged (timed_answer lease end fails true time r).append →
     (c : ℕ) × ((timed_answer lease end fails true time r).time ≡ Some c)

@@ -41,6 +41,7 @@ told_record (AbortedBy by) v is = is
 abbrev pub FateOfReply : Reply → Fate → Type 0
 FateOfReply (reply.FateIs f) g = f ≡ g
 FateOfReply (reply.Committed c) g = fate.Committed c ≡ g
+FateOfReply (reply.AbortedBy by) g = fate.Aborted ≡ g
 FateOfReply r g = ⊥
 
 -- of a Resolve
@@ -87,7 +88,7 @@ commit_told : (lease : ℕ) (o : History) (fails : Bool) (floor reading : ℕ) (
 commit_told lease o fails floor reading (Pending own) f is =
     commit_chosen (holds (lease_end lease o) (has_given o) reading) (or_zero (lease_end lease o)) lease (lease_end lease o) fails (clock_time Own (last_time o) floor reading) (Pending own) f is
 commit_told lease o fails floor reading (Committed c tablets) f is = inl (sym is)
-commit_told lease o fails floor reading (AbortedBy by) f is = absurd is
+commit_told lease o fails floor reading (AbortedBy by) f is = inl (sym is)
 commit_told lease o fails floor reading NoRecord f is = absurd is
 
 -- of an Abort
@@ -167,6 +168,20 @@ pub data Told (o : History) (x : ℕ) (event : Event) (f : Fate) : Type 0 where
   ByCommit : (c : ℕ) → f ≡ fate.Committed c → Commits x c event → WasTaken event → Told o x event f
   ByResolve : f ≡ fate.Aborted → IsResolve x event → WasTaken event → Told o x event f
 
+commits_at : (x y c : ℕ) (from : Actor) (floor : ℕ) (tablets : List ℕ) (r : Reply) (time : Option ℕ) (append : Append) → y ≡ x → time ≡ Some c →
+    Commits x c (Serve from (request.Commit y floor tablets) r time append)
+commits_at x y c from floor tablets r time append same is = subst (λ (u : Option ℕ). Commits x c (Serve from (request.Commit y floor tablets) r u append)) (sym is) (same, refl)
+
+commit_at : (lease j : ℕ) (o : History) (reading : Option ℕ) (x y floor : ℕ) (from : Actor) (tablets : List ℕ) (r : Reply) (time : Option ℕ) (append : Append) (f : Fate) →
+    ServesNext lease (Status j) o reading (Serve from (request.Commit y floor tablets) r time append) → y ≡ x → FateOfReply r f → Told o x (Serve from (request.Commit y floor tablets) r time append) f
+commit_at lease j o reading x y floor from tablets r time append f served same is =
+    let s = seen lease j o reading (request.Commit y floor tablets) r time append f (λ never. cc) served is in
+    elim (commit_told lease o s.fails floor s.reading (record_of y o) f s.told) [
+      | inl stood ↦ Before (at_txn o x y f same stood)
+      | inr made ↦ ByCommit made.0 made.1 (commits_at x y made.0 from floor tablets r time append same (s.time ∙ made.2))
+          (took_logs from (request.Commit y floor tablets) r time append (s.append ∙ made.3))
+    ]
+
 pub told_at : (lease j : ℕ) (o : History) (reading : Option ℕ) (x : ℕ) (event : Event) (f : Fate) → ServesNext lease (Status j) o reading event → Tells x event f → Told o x event f
 told_at lease j o reading x (Serve from (request.AskFate y t) (reply.FateIs told) time append) f served is =
     let s = seen lease j o reading (request.AskFate y t) (reply.FateIs told) time append f (λ never. cc) served is.1 in
@@ -178,16 +193,9 @@ told_at lease j o reading x (Serve from (request.Resolve y by priority) (reply.F
       | inr made ↦ ByResolve made.0 is.0 (took_logs from (request.Resolve y by priority) (reply.FateIs told) time append (s.append ∙ made.1))
     ]
 told_at lease j o reading x (Serve from (request.Commit y floor tablets) (reply.Committed d) time append) f served is =
-    let s = seen lease j o reading (request.Commit y floor tablets) (reply.Committed d) time append f (λ never. cc) served is.1 in
-    elim (commit_told lease o s.fails floor s.reading (record_of y o) f s.told) [
-      | inl stood ↦ Before (at_txn o x y f is.0 stood)
-      | inr made ↦ ByCommit made.0 made.1 (commits_at x y made.0 from floor tablets (reply.Committed d) time append is.0 (s.time ∙ made.2))
-          (took_logs from (request.Commit y floor tablets) (reply.Committed d) time append (s.append ∙ made.3))
-    ]
-  where
-    commits_at : (x y c : ℕ) (from : Actor) (floor : ℕ) (tablets : List ℕ) (r : Reply) (time : Option ℕ) (append : Append) → y ≡ x → time ≡ Some c →
-        Commits x c (Serve from (request.Commit y floor tablets) r time append)
-    commits_at x y c from floor tablets r time append same is = subst (λ (u : Option ℕ). Commits x c (Serve from (request.Commit y floor tablets) r u append)) (sym is) (same, refl)
+    commit_at lease j o reading x y floor from tablets (reply.Committed d) time append f served is.0 is.1
+told_at lease j o reading x (Serve from (request.Commit y floor tablets) (reply.AbortedBy by) time append) f served is =
+    commit_at lease j o reading x y floor from tablets (reply.AbortedBy by) time append f served is.0 is.1
 told_at lease j o reading x (Serve from (request.Abort y) (reply.Committed d) time append) f served is =
     let s = seen lease j o reading (request.Abort y) (reply.Committed d) time append f (λ never. cc) served is.1 in
     Before (at_txn o x y f is.0 (abort_told s.fails (record_of y o) f s.told))

@@ -29,6 +29,7 @@ abbrev pub Tells : ℕ → Event → Fate → Type 0
 Tells x (Serve from (request.AskFate y t) (reply.FateIs told) time append) f = (y ≡ x) × (told ≡ f)
 Tells x (Serve from (request.Resolve y by priority) (reply.FateIs told) time append) f = (y ≡ x) × (told ≡ f)
 Tells x (Serve from (request.Commit y floor tablets) (reply.Committed c) time append) f = (y ≡ x) × (fate.Committed c ≡ f)
+Tells x (Serve from (request.Commit y floor tablets) (reply.AbortedBy by) time append) f = (y ≡ x) × (fate.Aborted ≡ f)
 Tells x (Serve from (request.Abort y) (reply.Committed c) time append) f = (y ≡ x) × (fate.Committed c ≡ f)
 Tells x event f = ⊥
 

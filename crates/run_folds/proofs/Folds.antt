@@ -21,8 +21,8 @@ use Rattle.txn_types.specs.ReadProgram.{paths_on}
 use Rattle.txn_types.specs.Tablet.{writes_at}
 use Rattle.txn_types.specs.Run.{Run}
 use Rattle.run_machines.proofs.Basics.{eq_true, eq_cases, member_map, map_member, filter_member}
-use Rattle.run_machines.proofs.Owns.{Before, After, One, in_order}
-use Rattle.run_owners.proofs.Runs.{ids_once}
+use Rattle.run_machines.proofs.Owns.{Before, After, One, in_order, counting_part}
+use Rattle.run_owners.proofs.Runs.{ids_once, IsSingleOf, single_uses}
 use Rattle.run_places.specs.Laws.{IsPlace}
 use Rattle.run_related.proofs.Related.{commits_differ}
 use Rattle.run_numbers.specs.Laws.{IsNumbered}
@@ -31,10 +31,10 @@ use Rattle.run_values.specs.Laws.{Ranked, IsOn, AreRanked}
 use Rattle.run_values.proofs.Paths.{prefixes_related}
 use Rattle.run_values.proofs.Folded.{versions_leave}
 use Rattle.run_values.proofs.Tablets.{reads_show as rows_show}
-use Rattle.run_versions.proofs.Same.{IsSingleOf, single_uses, write_and_single}
+use Rattle.run_versions.proofs.Same.{write_and_single}
 use Rattle.run_folds.specs.Laws.{TabletsShowTheFold, AreStarted, ReadsShowTheFold}
 use Rattle.run_folds.proofs.Ranks.{ranks, snapshot_writes, snapshot_entry, single_ranks}
-use Rattle.run_folds.proofs.Made.{counting_part, Snapshot, Single, kind_of, its, rank_entry, version_rank, made_at}
+use Rattle.run_folds.proofs.Made.{Snapshot, Single, kind_of, its, rank_entry, version_rank, made_at}
 
 -- ## transactions of one time with related writes are one
 

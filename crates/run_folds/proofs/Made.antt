@@ -17,20 +17,17 @@ use Rattle.txn_types.specs.Committed.{Numbered, accepted_by, snapshot_by, single
 use Rattle.txn_types.specs.Plan.{PlacesAgree, first_part}
 use Rattle.txn_types.specs.Run.{Run}
 use Rattle.run_machines.proofs.Basics.{eq_refl, member_cases, member_left, member_right, flat_member, member_flat}
-use Rattle.run_machines.proofs.Counted.{counted_member}
-use Rattle.run_machines.proofs.Owns.{own_member, member_counted}
+use Rattle.run_machines.proofs.Owns.{counting_part}
+use Rattle.run_owners.proofs.Runs.{IsSingleOf}
 use Rattle.run_places.specs.Laws.{IsPlace}
 use Rattle.run_related.proofs.Writes.{Made}
 use Rattle.run_related.proofs.Related.{first_same, made_place}
 use Rattle.run_values.specs.Laws.{Ranked, rank, AreItsRanks}
 use Rattle.run_versions.specs.Laws.{MakesVersion, IsMadeIn}
-use Rattle.run_versions.proofs.Same.{IsSingleOf, by}
+use Rattle.run_versions.proofs.Same.{by}
 use Rattle.run_folds.proofs.Ranks.{ranks, first, its_snapshot, its_single, snapshot_entry, accepted_rank, single_ranks}
 
 -- ## committed transactions and single writes
-
-pub counting_part : (e : Entry) (h : History) → Member e (counting h) → Member e h
-counting_part e h m = own_member e e.actor h (counted_member e false (own e.actor h) (member_counted e e.actor h refl m))
 
 -- a committed single write, and the version that it made
 pub record SingleOf (h : History) (x : CommittedTxn) (e : Entry) (event : Event) : Type 0 where

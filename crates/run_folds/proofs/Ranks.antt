@@ -1,5 +1,5 @@
 -- The writes of a committed transaction with what ranks them, and the entries that made them.
-use Rattle.std.proofs.Common.{◌≡◌, ℕ, ◌≤◌, Bool, true, false, List, [], ◌∷◌, Some, map, flat_map, nat_le, nat_eq, refl, sym, ◌∙◌, ap, subst, inl, inr, if◌then◌else◌, arith}
+use Rattle.std.proofs.Common.{◌≡◌, ℕ, ◌≤◌, Bool, true, false, List, [], ◌∷◌, Some, map, nat_eq, refl, sym, ◌∙◌, ap, subst, inl, inr, if◌then◌else◌, arith}
 use Rattle.std.proofs.lemmas.Bool.{leb-true, leb-false}
 use Rattle.txn_data.specs.declared.committed_txn.CommittedTxn.{CommittedTxn}
 use Rattle.txn_data.specs.declared.config.Config.{Config}
@@ -14,24 +14,20 @@ use Rattle.txn_types.specs.Lists.{Member, sorted_by}
 use Rattle.txn_types.specs.History.{History, counting}
 use Rattle.txn_types.specs.Committed.{Numbered, accepted_by, writes, snapshot_by, committed_snapshots}
 use Rattle.txn_types.specs.Run.{Run}
-use Rattle.run_machines.proofs.Basics.{eq_true, map_member, member_map, flat_member, member_flat}
+use Rattle.run_machines.proofs.Basics.{eq_true, map_member, member_map, flat_member, member_flat, sorted_from}
+use Rattle.run_owners.proofs.Runs.{IsSingleOf}
 use Rattle.run_fates.specs.Laws.{CommittedAt}
 use Rattle.run_numbers.specs.Laws.{IsNumbered}
 use Rattle.run_values.specs.Laws.{Ranked, rank, InOrder, AreItsRanks}
-use Rattle.run_values.proofs.Orders.{Sorts, sorted_from, sorted_into, sorted_order}
+use Rattle.run_values.proofs.Orders.{Sorts, sorted_into, sorted_order}
+use Rattle.run_numbers.proofs.Numbers.{all_accepted, by_number}
 use Rattle.run_versions.specs.Laws.{MakesVersion}
-use Rattle.run_versions.proofs.Same.{IsSingleOf, write_and_single}
+use Rattle.run_versions.proofs.Same.{write_and_single}
 
 -- ## ranks
 
-abbrev before_number : Numbered → Numbered → Bool
-before_number a b = nat_le a.number b.number
-
-abbrev all_accepted : History → ℕ → List Numbered
-all_accepted h x = flat_map (λ (e : Entry). accepted_by x e.event) h
-
 abbrev pub numbered : History → ℕ → List Numbered
-numbered h x = sorted_by before_number (all_accepted h x)
+numbered h x = sorted_by by_number (all_accepted h x)
 
 abbrev pub ranked : ℕ → Numbered → Ranked
 ranked c n = record { at = c; number = n.number; write = n.write }
@@ -76,7 +72,7 @@ ranked_order c (n ∷ ns) order = (
   ranked_order c ns order.1,
 )
 
-numbers_sort : Sorts before_number (λ (a b : Numbered). a.number ≤ b.number)
+numbers_sort : Sorts by_number (λ (a b : Numbered). a.number ≤ b.number)
 numbers_sort = record {
   first = λ a b is. leb-true a.number b.number is;
   second = λ a b is. let low = leb-false a.number b.number is in omega (arith, low);
@@ -113,7 +109,7 @@ unfolding writes
 numbered_writes h x m = snapshot_writes h x m
 
 pub its_snapshot : (h : History) (x : CommittedTxn) → Member x (committed_snapshots h) → AreItsRanks (ranks h x) x
-its_snapshot h x m = its_from x (numbered h x.txn) (numbered_writes h x m) (sorted_order before_number (λ (a b : Numbered). a.number ≤ b.number) numbers_sort (all_accepted h x.txn))
+its_snapshot h x m = its_from x (numbered h x.txn) (numbered_writes h x m) (sorted_order by_number (λ (a b : Numbered). a.number ≤ b.number) numbers_sort (all_accepted h x.txn))
 
 -- the accepted write of an entry
 accepted_choice : (b : Bool) (x txn : ℕ) (n k : Numbered) → nat_eq txn x ≡ b → Member n (if b then k ∷ [] else []) → (txn ≡ x) × (n ≡ k)
@@ -144,7 +140,7 @@ IsAccepted h x n = (e : Entry) × Member e h × Member n (accepted_by x.txn e.ev
 
 numbered_entry : (h : History) (x : CommittedTxn) (n : Numbered) → Member n (numbered h x.txn) → IsAccepted h x n
 numbered_entry h x n m =
-    let f = flat_member (λ (e : Entry). accepted_by x.txn e.event) n h (sorted_from before_number n (all_accepted h x.txn) m) in
+    let f = flat_member (λ (e : Entry). accepted_by x.txn e.event) n h (sorted_from by_number n (all_accepted h x.txn) m) in
     (f.0, f.1, f.2, accepted_event h x.txn x.at n f.0 f.0.event f.2)
 
 from_numbered : (x : CommittedTxn) (ns : List Numbered) (r : Ranked) → x.writes ≡ map (λ (n : Numbered). n.write) ns → Member r (ranks_from x ns) → (n : Numbered) × Member n ns × (r ≡ record { at = x.at; number = n.number; write = n.write })
@@ -161,7 +157,7 @@ into_numbered x [] n m = absurd m
 into_numbered x (k ∷ ns) n m = member_map (ranked x.at) n (k ∷ ns) m
 
 pub accepted_rank : (h : History) (x : CommittedTxn) (n : Numbered) (e : Entry) → Member e h → Member n (accepted_by x.txn e.event) → Member (record { at = x.at; number = n.number; write = n.write }) (ranks h x)
-accepted_rank h x n e m of = into_numbered x (numbered h x.txn) n (sorted_into before_number n (all_accepted h x.txn) (member_flat (λ (f : Entry). accepted_by x.txn f.event) e n h m of))
+accepted_rank h x n e m of = into_numbered x (numbered h x.txn) n (sorted_into by_number n (all_accepted h x.txn) (member_flat (λ (f : Entry). accepted_by x.txn f.event) e n h m of))
 
 -- ## of a single write
 

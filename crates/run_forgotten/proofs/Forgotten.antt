@@ -19,19 +19,18 @@ use Rattle.txn_types.specs.Run.{Run}
 use Rattle.run_machines.specs.Own.{StandsOver, ServesNext, landed}
 use Rattle.run_machines.proofs.Basics.{eq_true, filter_member, member_filter}
 use Rattle.run_machines.proofs.Counted.{own_all, counts_served, counting_own, counted, WasServed}
-use Rattle.run_machines.proofs.Owns.{serves_own, serves_at, stands_member, member_stands, own_member, member_own}
+use Rattle.run_machines.proofs.Owns.{serves_own, serves_at, stands_member, member_stands, own_member, member_own, run_until}
 use Rattle.run_machines.proofs.Landed.{logged, standing_landed}
 use Rattle.run_machines.proofs.Lands.{logged_member}
 use Rattle.run_clocks.proofs.Runs.{member_before}
 use Rattle.run_owners.specs.Owner.{home_of, IsHomedAt}
 use Rattle.run_owners.proofs.Runs.{requests_homed}
-use Rattle.run_fates.specs.Laws.{Tells}
 use Rattle.run_fates.proofs.Life.{Life, Fresh, Open, Finished, Dead, life, RecordIs, IsNotBefore}
 use Rattle.run_fates.proofs.Told.{Before, ByCommit, ByResolve, told_at}
-use Rattle.run_fates.proofs.Runs.{home_log, home_lands, record_before, grown, committed_finished}
-use Rattle.run_sessions.specs.Laws.{Begun, IsBeginOf}
+use Rattle.run_fates.proofs.Runs.{home_log, home_lands, record_before, grown, committed_finished, tells_home}
+use Rattle.run_opened.specs.Transaction.{Begun, IsBeginOf}
 use Rattle.run_heard.specs.Laws.{NotesOf}
-use Rattle.run_heard.proofs.Runs.{run_until, notes_applied}
+use Rattle.run_heard.proofs.Runs.{notes_applied}
 use Rattle.run_forgotten.specs.Laws.{WasApplied, CommitsWith, IsForgotten, ToldAbsentIsForgotten}
 use Rattle.run_forgotten.proofs.Notes.{noted_member, Forgets, forgets, begun_taken}
 use Rattle.run_forgotten.proofs.Records.{forgot_entry, record_commit, begin_not_fresh}
@@ -74,13 +73,6 @@ absent_record (Pending own) is = cc
 absent_record (Committed c ts) is = cc
 absent_record (AbortedBy by) is = cc
 
-tells_home : (config : Config) (a : Actor) (x : ℕ) (event : Event) → IsHomedAt config a event → Tells x event fate.Absent → a ≡ Status (home_of config x)
-tells_home config a x (Serve from (request.AskFate y t) (reply.FateIs told) time append) homed is = homed.0 ∙ ap (λ (w : ℕ). Status (home_of config w)) is.0
-tells_home config a x (Serve from (request.Resolve y by priority) (reply.FateIs told) time append) homed is = homed.0.1 ∙ ap (λ (w : ℕ). Status (home_of config w)) is.0
-tells_home config a x (Serve from (request.Commit y floor tablets) (reply.Committed d) time append) homed is = homed.0.1 ∙ ap (λ (w : ℕ). Status (home_of config w)) is.0
-tells_home config a x (Serve from (request.Abort y) (reply.Committed d) time append) homed is = homed.0.1 ∙ ap (λ (w : ℕ). Status (home_of config w)) is.0
-tells_home config a x event homed is = absurd is
-
 -- no record, and a commit in the end: it had committed, and was gone
 gone_life : (v w : Life) (c : ℕ) → (v ≡ Fresh → ⊥) → RecordIs NoRecord v → IsNotBefore v w → w ≡ Finished c → v ≡ Finished c
 gone_life Fresh w c never is step end = absurd (never refl)
@@ -103,7 +95,7 @@ forgets_event lease j o reading x k event served logs is = absurd is
 committed_life : (v : Life) (c : ℕ) (ts : List ℕ) → RecordIs (Committed c ts) v → v ≡ Finished c
 committed_life v c ts is = is
 
-same_time : (v w : Life) (c d : ℕ) → v ≡ Finished d → IsNotBefore v w → w ≡ Finished c → d ≡ c
+pub same_time : (v w : Life) (c d : ℕ) → v ≡ Finished d → IsNotBefore v w → w ≡ Finished c → d ≡ c
 same_time v w c d is step end = let later : w ≡ Finished d = subst (λ (z : Life). IsNotBefore z w) is step in cc
 
 commits_time : (x c d : ℕ) (ts : List ℕ) (event : Event) → d ≡ c → CommitsWith x d ts event → CommitsWith x c ts event
@@ -146,7 +138,7 @@ pub told_absent : ToldAbsentIsForgotten
 told_absent config h b j x c run stands begun tells at =
     let a = Status (home_of config x) in
     let until = run_until config h b j run stands in
-    let home = tells_home config j.actor x j.event (requests_homed config h j run (stands_member j b h stands)) tells in
+    let home = tells_home config j.actor x j.event fate.Absent (requests_homed config h j run (stands_member j b h stands)) tells in
     let served : ServesNext config.lease_us a (own a b) j.reading j.event = subst (λ (d : Actor). ServesNext config.lease_us d (own d b) j.reading j.event) home (serves_at config j b h run.1 stands) in
     let gone : record_of x (own a b) ≡ NoRecord = elim (told_at config.lease_us (home_of config x) (own a b) j.reading x j.event fate.Absent served tells) [
       | Before told ↦ absent_record (record_of x (own a b)) told

@@ -18,8 +18,9 @@ use Rattle.txn_types.specs.Clock.{Answer, logged, down_since}
 use Rattle.txn_types.specs.Status.{Record, NoRecord, Pending, Committed, AbortedBy, record_of, noted, noted_after, is_sure, may_forget, status_up, status_standing}
 use Rattle.txn_types.specs.Run.{Serves}
 use Rattle.run_machines.proofs.Basics.{eq_true}
+use Rattle.run_fates.proofs.Table.{logged_due}
+use Rattle.run_opened.specs.Transaction.{IsLogged}
 use Rattle.run_heard.specs.Laws.{NotesOf}
-use Rattle.run_sessions.specs.Laws.{IsLogged}
 
 note_choice : (b : Bool) (x y tablet k : ℕ) (ns : List ℕ) → nat_eq y x ≡ b → has_number k (if b then tablet ∷ ns else ns) ≡ true → (has_number k ns ≡ true) ⊎ ((y ≡ x) × (tablet ≡ k))
 note_choice true x y tablet k ns same is = elim (or_cases (nat_eq k tablet) (has_number k ns) is) [
@@ -73,10 +74,6 @@ forget_record o x k sure NoRecord is may = cc
 forget_record o x k sure (Pending own) is may = cc
 forget_record o x k sure (AbortedBy by) is may = cc
 
-due_of : (fails due : Bool) (time : Option ℕ) (r : Reply) → IsLogged (logged fails due time r).append → due ≡ true
-due_of fails false time r is = absurd is
-due_of fails true time r is = refl
-
 up_of : (d : Option ℕ) (up : Answer) → IsLogged (status_standing d up).append → IsLogged up.append
 up_of (Some n) up is = absurd is
 up_of None up is = is
@@ -84,7 +81,7 @@ up_of None up is = is
 pub forgets : (lease j : ℕ) (o : History) (reading : Option ℕ) (x k : ℕ) (r : Reply) (time : Option ℕ) (append : Append) → Serves lease (Status j) o reading (request.Applied x k) r time append → IsLogged append → Forgets o x k
 forgets lease j o reading x k r time append served is =
     forget_record o x k (is_sure x o) (record_of x o) refl
-    (due_of served.fails (may_forget (is_sure x o) (k ∷ noted x o) (record_of x o)) None reply.Noted
+    (logged_due served.fails (may_forget (is_sure x o) (k ∷ noted x o) (record_of x o)) None reply.Noted
     (up_of (down_since o) (status_up lease o served.fails (or_zero reading) (request.Applied x k)) (subst (λ (a : Append). IsLogged a) served.logged is)))
 
 -- ## a Begin that was answered

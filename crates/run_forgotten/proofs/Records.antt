@@ -11,9 +11,9 @@ use Rattle.txn_types.specs.Status.{Record, NoRecord, Pending, Committed, Aborted
 use Rattle.run_machines.proofs.Basics.{eq_true, eq_refl}
 use Rattle.run_machines.proofs.Lands.{Lands, Same, More}
 use Rattle.run_heard.specs.Laws.{NotesOf}
-use Rattle.run_sessions.specs.Laws.{IsBeginOf}
 use Rattle.run_fates.proofs.Table.{LandOk, MayEnd}
 use Rattle.run_fates.proofs.Life.{Life, Fresh, Open, Finished, Dead, begun, finished, died, life_after, life, RecordIs, record_is, IsNotBefore, life_grows}
+use Rattle.run_opened.specs.Transaction.{IsBeginOf}
 use Rattle.run_forgotten.specs.Laws.{CommitsWith}
 
 -- ## what was committed is gone

@@ -12,7 +12,7 @@ use Rattle.txn_types.specs.History.{History, was_logged}
 use Rattle.txn_types.specs.Run.{Run}
 use Rattle.run_machines.specs.Own.{StandsOver}
 use Rattle.run_fates.specs.Laws.{Tells, CommittedAt}
-use Rattle.run_sessions.specs.Laws.{Begun}
+use Rattle.run_opened.specs.Transaction.{Begun}
 use Rattle.run_heard.specs.Laws.{HasApplied}
 
 -- the transaction was applied at this tablet

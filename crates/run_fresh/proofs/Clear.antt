@@ -22,30 +22,29 @@ use Rattle.txn_types.specs.Tablet.{Intent, version_at, provisional}
 use Rattle.txn_types.specs.Reads.{Read, reads, start_of, opened_at, inside}
 use Rattle.txn_types.specs.Run.{Run}
 use Rattle.run_machines.specs.Own.{StandsOver, ServesNext}
-use Rattle.run_machines.proofs.Owns.{stands_member, stands_trans, serves_at}
+use Rattle.run_machines.proofs.Owns.{stands_member, stands_trans, serves_at, run_until}
 use Rattle.run_owners.specs.Owner.{home_of}
-use Rattle.run_owners.proofs.Runs.{requests_homed}
+use Rattle.run_owners.proofs.Runs.{requests_homed, IsSingleOf}
 use Rattle.run_fates.specs.Laws.{CommittedAt}
 use Rattle.run_fates.proofs.Life.{Life, Open, Finished, life}
 use Rattle.run_fates.proofs.Told.{Before, ByCommit, ByResolve, Becomes, told_at, told_before}
 use Rattle.run_fates.proofs.Runs.{home_log, record_before, committed_finished}
-use Rattle.run_sessions.specs.Laws.{IsEndOf}
+use Rattle.run_opened.specs.Transaction.{IsEndOf}
 use Rattle.run_sessions.proofs.Runs.{commit_of}
-use Rattle.run_heard.proofs.Runs.{run_until}
 use Rattle.run_numbers.specs.Laws.{IsNumbered}
 use Rattle.run_order.specs.Laws.{IsCommittedWrite}
 use Rattle.run_versions.specs.Laws.{MakesVersion, IsFront}
 use Rattle.run_versions.proofs.Runs.{committed_stays}
-use Rattle.run_versions.proofs.Same.{IsSingleOf, Kind, Writes, Singles, write_and_single}
+use Rattle.run_versions.proofs.Same.{Kind, Writes, Singles, write_and_single}
 use Rattle.run_courses.specs.Course.{IsPart}
 use Rattle.run_courses.proofs.Parts.{part_trans, part_tail, part_member, part_stands}
-use Rattle.run_steady.proofs.Says.{WasTold}
-use Rattle.run_steady.proofs.Commits.{never_both}
+use Rattle.run_told_commits.proofs.Says.{WasTold}
+use Rattle.run_told_commits.proofs.Commits.{never_both}
 use Rattle.run_reads.specs.Visits.{fate_entry, WasAsked, Wanted, Visit}
 use Rattle.run_considered.proofs.Intents.{WroteIt, wrote_it, same_txn}
 use Rattle.run_considered.proofs.Visits.{lists, collects, list_stands, IsClear}
 use Rattle.run_right.proofs.Above.{opened_at_start}
-use Rattle.run_fresh.proofs.Origins.{told_kind, from_single, to_single}
+use Rattle.run_fresh.proofs.Origins.{told_kind}
 use Rattle.run_fresh.proofs.Opened.{open_at_start}
 
 -- ## what is committed is not told Pending
@@ -149,7 +148,7 @@ kind_clear config h low read w k t x at n window answer v u e event (Writes numb
     let mine : IsNumbered x n e.event = subst (λ (ev : Event). IsNumbered x n ev) (sym is) number in
     let committed : CommittedAt low x at = elim (told_kind config low x at run_low was) [
       | inl yes_so ↦ yes_so
-      | inr single ↦ absurd (write_and_single config h e single.0 x n run of_e (part_member single.0 low h part_h single.1) mine (to_single x single.0.event single.2))
+      | inr single ↦ absurd (write_and_single config h e single.0 x n run of_e (part_member single.0 low h part_h single.1) mine single.2)
     ] in
     let front : IsFront v.list_before h = inr (lists h (start_of read) (Session read.session) w k t window answer v, list_stands h (start_of read) (Session read.session) w k t window answer v) in
     record {
@@ -165,7 +164,7 @@ kind_clear config h low read w k t x at n window answer v u e event (Singles sin
       none = λ f pending none told. none;
       whose = λ p mp committed_p now.
           let same = waits_own config h v.list_before k x n u e p run front of_e actor makes (Singles mine) mp committed_p now in
-          never_both config h x u.at e run (subst (λ (z : ℕ). CommittedAt h z u.at) same committed_p) of_e (from_single x e.event mine);
+          never_both config h x u.at e run (subst (λ (z : ℕ). CommittedAt h z u.at) same committed_p) of_e mine;
     }
 
 pub clear : (config : Config) (h low : History) (read : Read) (w : Wanted) (k t x at n : ℕ) (window : Option Window) (answer : Reply) (v : Visit h (start_of read) (Session read.session) w k t window answer) (u : Version) (e : Entry) (kind : Kind x n e.event) → Run config h → Run config low →

@@ -1,6 +1,6 @@
 -- Reads are fresh: what was known before a read, its first round met, or it is not later than the read.
-use Rattle.std.proofs.Common.{◌≡◌, ℕ, ◌<◌, ◌≤◌, Bool, true, false, ◌&&◌, List, [], ◌∷◌, Option, Some, None, map, filter, nat_lt, nat_le, nat_eq, refl, sym, ◌∙◌, ap, subst, inl, inr, ◌⊎◌, arith}
-use Rattle.std.proofs.lemmas.Bool.{or_cases, lt-ltb, le-leb, leb-true, leb-false}
+use Rattle.std.proofs.Common.{◌≡◌, ℕ, ◌<◌, ◌≤◌, Bool, true, false, ◌&&◌, [], Option, Some, None, map, filter, nat_lt, nat_le, nat_eq, refl, sym, ◌∙◌, ap, subst, inl, inr, ◌⊎◌, arith}
+use Rattle.std.proofs.lemmas.Bool.{lt-ltb, le-leb, leb-true, leb-false}
 use Rattle.std.specs.List.{list_any}
 use Rattle.doc_path.specs.Path.{Parts, related}
 use Rattle.txn_data.specs.declared.actor.Actor.{Actor}
@@ -22,17 +22,16 @@ use Rattle.txn_types.specs.ReadProgram.{tablets_of}
 use Rattle.txn_types.specs.Tablet.{local_limit, is_met}
 use Rattle.txn_types.specs.Reads.{Read, reads, start_of, places_of, line_of, paths_asked, opened_at, inside, origin, own_window, known, SkewHeld}
 use Rattle.txn_types.specs.Run.{Run}
-use Rattle.run_machines.proofs.Basics.{eq_refl, map_member, member_map, member_filter}
+use Rattle.run_machines.proofs.Basics.{eq_refl, map_member, member_map, member_filter, any_member, member_rising}
 use Rattle.run_messages.proofs.Rules.{entry}
 use Rattle.run_clocks.proofs.Runs.{listings_reach}
 use Rattle.run_machines.proofs.Owns.{stands_member}
-use Rattle.run_order.proofs.Found.{member_rising}
 use Rattle.run_places.specs.Laws.{IsPlace}
 use Rattle.run_courses.specs.Course.{IsPart}
 use Rattle.run_courses.proofs.Parts.{part_trans, part_tail, part_member, stands_part}
 use Rattle.run_steady.proofs.FinalTimes.{read_facts, reads_final}
 use Rattle.run_steady.proofs.FinalTimes.{read_told as read_entry}
-use Rattle.run_reads.specs.Visits.{Wanted, Visit, FirstVisit}
+use Rattle.run_reads.specs.Visits.{Wanted, Visit, WindowedVisit}
 use Rattle.run_reads.specs.Laws.{wanted_at, window_end}
 use Rattle.run_reads.proofs.Visited.{reads_visit}
 use Rattle.run_considered.proofs.Items.{any_of}
@@ -51,13 +50,6 @@ use Rattle.run_fresh.proofs.Clear.{Its, clear}
 use Rattle.run_fresh.proofs.Limits.{in_limit, own_limit}
 
 -- ## the path that it is related to
-
-any_member : {A : Type 0} (test : A → Bool) (xs : List A) → list_any test xs ≡ true → (a : A) × Member a xs × (test a ≡ true)
-any_member test [] is = cc
-any_member test (x ∷ xs) is = elim (or_cases (test x) (list_any test xs) is) [
-  | inl here ↦ (x, inl refl, here)
-  | inr later ↦ let r = any_member test xs later in (r.0, inr r.1, r.2)
-]
 
 -- a write of it, and a place of the line with a related path
 record Touched (config : Config) (read : Read) (x : CommittedTxn) : Type 0 where
@@ -84,7 +76,7 @@ window_of config h read (Some x) run m is = windows_of_begins config h read x ru
 
 -- a limit that was given to a first visit was fixed by such a listing, later than the origin
 abbrev pub GivenLimits : Config → History → Read → Type 0
-GivenLimits config h read = (kind : ReadKind) (k l : ℕ) (f : FirstVisit h (start_of read) (Session read.session) (wanted_at config read kind k) k read.at) → f.visit.known ≡ Some l →
+GivenLimits config h read = (kind : ReadKind) (k l : ℕ) (f : WindowedVisit h (start_of read) (Session read.session) (wanted_at config read kind k) k read.at) → f.visit.known ≡ Some l →
     FixedLimit h (origin config read) k (window_end config read (opened_at config read)) l
 
 limit_given : (config : Config) (h z : History) (m : Actor) (w : Wanted) (k t l : ℕ) (window : Option Window) (answer : Reply) (v : Visit h z m w k t window answer) → Run config h → v.known ≡ Some l → v.limit ≡ l
@@ -93,7 +85,7 @@ limit_given config h z m w k t l window answer v run is =
     let reach = listings_reach config h e t w.g v.known v.limit run (stands_member e v.list_before h (list_stands h z m w k t window answer v)) (refl, refl, refl, refl) in
     reach.2.fixed ∙ ap (λ (o : Option ℕ). local_limit o reach.0 w.g) is
 
-first_limit : (config : Config) (h : History) (read : Read) (kind : ReadKind) (k : ℕ) (f : FirstVisit h (start_of read) (Session read.session) (wanted_at config read kind k) k read.at) (o : Option ℕ) → Run config h → Member read (reads h) → GivenLimits config h read → f.visit.known ≡ o →
+first_limit : (config : Config) (h : History) (read : Read) (kind : ReadKind) (k : ℕ) (f : WindowedVisit h (start_of read) (Session read.session) (wanted_at config read kind k) k read.at) (o : Option ℕ) → Run config h → Member read (reads h) → GivenLimits config h read → f.visit.known ≡ o →
     FixedLimit h (origin config read) k (window_end config read (opened_at config read)) f.visit.limit
 first_limit config h read kind k f None run m given is =
     own_limit config h (origin config read) (start_of read) (Session read.session) (wanted_at config read kind k) k f.t (Some (record { g = (wanted_at config read kind k).g; limit = f.limit })) f.answer f.visit run (origin_part config h read run m) is
@@ -118,7 +110,7 @@ met_late config h read x run agree m held given known_is late =
     let d = reads_visit config h read run m in
     let w = wanted_at config read d.kind k in
     let named : Member k (tablets_of places) = member_rising k (map (λ (p : Place). p.tablet) places) (member_map (λ (p : Place). p.tablet) on.place places on.named) in
-    let f = d.first k named in
+    let f = d.windowed k named in
     let v = f.visit in
     let window : Window = record { g = w.g; limit = f.limit } in
     let wr = write_of config h x on.write run t.of on.of in

@@ -17,12 +17,11 @@ use Rattle.txn_types.specs.Run.{Run, Serves}
 use Rattle.run_machines.specs.Own.{StandsOver, ServesNext, piece}
 use Rattle.run_machines.proofs.Basics.{filter_member}
 use Rattle.run_machines.proofs.Counted.{counting_own, own_all}
-use Rattle.run_machines.proofs.Owns.{member_stands, serves_at, stands_member, counted_counting}
+use Rattle.run_machines.proofs.Owns.{member_stands, serves_at, stands_member, counted_counting, run_until}
 use Rattle.run_clocks.proofs.Rise.{timed_whole}
 use Rattle.run_clocks.proofs.Answered.{list_answered}
 use Rattle.run_clocks.proofs.Runs.{times_rise, listings_reach, member_before}
 use Rattle.run_owners.specs.Owner.{Uses}
-use Rattle.run_heard.proofs.Runs.{run_until}
 use Rattle.run_versions.specs.Laws.{MakesVersion, CountsIn}
 use Rattle.run_versions.proofs.Runs.{stands_event}
 use Rattle.run_courses.specs.Course.{IsPart, entry_of}

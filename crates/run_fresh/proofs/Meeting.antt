@@ -18,6 +18,7 @@ use Rattle.txn_types.specs.Clock.{told_only, down_since}
 use Rattle.txn_types.specs.Tablet.{not_after, is_met, better_met, met_in, collected, considered, provisional, versions, tablet_standing}
 use Rattle.txn_types.specs.Run.{Serves}
 use Rattle.run_machines.proofs.Basics.{eq_true}
+use Rattle.run_values.proofs.Folded.{first_not}
 use Rattle.run_reads.specs.Visits.{IsCollect, MeetsUpTo}
 
 -- ## the greatest
@@ -25,10 +26,6 @@ use Rattle.run_reads.specs.Visits.{IsCollect, MeetsUpTo}
 either_choice : (b : Bool) (v : Version) (m : MetAt) → (b ≡ true → m.at ≤ v.at) → (b ≡ false → v.at ≤ m.at) → (v.at ≤ (if b then (record { at = v.at; path = v.path }) else m).at) × (m.at ≤ (if b then (record { at = v.at; path = v.path }) else m).at)
 either_choice true v m yes_so not_so = (omega arith, yes_so refl)
 either_choice false v m yes_so not_so = (not_so refl, omega arith)
-
-first_not : (a b : Bool) → a || b ≡ false → a ≡ false
-first_not true b is = cc
-first_not false b is = refl
 
 better_both : (v : Version) (m : MetAt) → (v.at ≤ (better_met v (Some m)).at) × (m.at ≤ (better_met v (Some m)).at)
 better_both v m =

@@ -12,28 +12,25 @@ use Rattle.txn_types.specs.Lists.{Member}
 use Rattle.txn_types.specs.History.{History}
 use Rattle.txn_types.specs.Session.{Keeps, Opened}
 use Rattle.txn_types.specs.Reads.{Read, reads, before_start, start_of, opened_at, began_by, begin_of, origin, origin_under, txn_of}
-use Rattle.txn_types.specs.Run.{Run, Steps, flight, mover_at, session_of, IsUnderWay}
+use Rattle.txn_types.specs.Run.{Run, Steps, mover_at, session_of, IsUnderWay}
 use Rattle.run_machines.specs.Own.{StandsOver}
 use Rattle.run_machines.proofs.Basics.{eq_true}
 use Rattle.run_machines.proofs.Owns.{steps_at}
-use Rattle.run_messages.proofs.Rules.{entry, Now, stage_of}
-use Rattle.run_messages.proofs.Safe.{Rests}
-use Rattle.run_messages.proofs.Runs.{kept_by}
+use Rattle.run_messages.proofs.Rules.{entry}
 use Rattle.run_owners.specs.Owner.{owner_of}
 use Rattle.run_owners.proofs.Serials.{id_owner}
-use Rattle.run_sessions.proofs.Open.{OpenOk, OpenedOk, IdleOk}
-use Rattle.run_sessions.proofs.Open.{rules as session_rules}
-use Rattle.run_sessions.proofs.Commands.{keeping as session_keeping}
+use Rattle.run_opened.proofs.Open.{OpenOk, OpenedOk, IdleOk}
+use Rattle.run_sessions.proofs.Runs.{idle_ok}
 use Rattle.run_read_times.specs.Laws.{IsReadLine, IsToldAt}
 use Rattle.run_read_times.proofs.Runs.{reads_up}
 use Rattle.run_courses.specs.Course.{IsPart}
 use Rattle.run_courses.proofs.Courses.{told_came_about}
-use Rattle.run_courses.proofs.Parts.{part_refl, part_trans, part_tail, stands_part}
+use Rattle.run_courses.proofs.Parts.{part_refl, part_trans, part_tail, stands_part, part_none}
 use Rattle.run_steady.proofs.FinalTimes.{read_facts, part_start, part_steps, start_of_keeps}
 use Rattle.run_steady.proofs.FinalTimes.{read_told as read_entry}
 use Rattle.run_right.proofs.Starts.{under_way}
 use Rattle.run_right.proofs.Starts.{start_of as began_at}
-use Rattle.run_right.proofs.Above.{rests_idle, about_clear}
+use Rattle.run_right.proofs.Above.{about_clear}
 
 -- ## what the session knows of it
 
@@ -63,8 +60,7 @@ open_at_start config h read x run m is =
     let start = began_at config a before f.line f.run.1 f.line_is in
     let run_low : Run config low = (f.run.0, part_steps config low before (part_start a before) f.run.1) in
     let l = mover_at config a low in
-    let rests : Rests (session_rules config) config a low l.keeps = rests_idle (session_rules config) config a (before_start a low) (stage_of l) low l.rest l.line (flight a low) ((kept_by (session_rules config) config (session_keeping config run_low.0) low run_low.1).movers a) start.idle in
-    let idle : IdleOk config low a l.keeps = rests low Now in
+    let idle : IdleOk config low a l.keeps = idle_ok config low i run_low start.idle in
     record { last = l.keeps.last; serial = l.keeps.serial; ok = ok_of config low i l.keeps.last l.keeps.serial l.keeps.opened x idle.opened is; doubt = clear }
 
 -- ## its begin
@@ -91,11 +87,6 @@ begin_is : (y : ℕ) (h : History) → BeginIs y h (begin_of y h)
 unfolding begin_of
 begin_is y [] = Nowhere refl
 begin_is y (e ∷ h) = begin_event y e.actor e.reading e.event h (begin_is y h)
-
-part_none : (h : History) → IsPart [] h
-unfolding IsPart
-part_none [] = refl
-part_none (e ∷ h) = inr (part_none h)
 
 line_some : (o : Option Command) → IsUnderWay o → (line : Command) × (o ≡ Some line)
 line_some (Some line) is = (line, refl)

@@ -3,12 +3,11 @@ use Rattle.std.proofs.Common.{◌≡◌, ℕ, true, List, [], ◌∷◌, Option,
 use Rattle.txn_data.specs.declared.actor.Actor.{Actor}
 use Rattle.txn_data.specs.declared.committed_txn.CommittedTxn.{CommittedTxn}
 use Rattle.txn_data.specs.declared.config.Config.{Config}
-use Rattle.txn_data.specs.declared.request.Request.TheVariants as request
 use Rattle.txn_data.specs.declared.told.Told.TheVariants as told
 use Rattle.txn_data.specs.declared.version.Version.{Version}
 use Rattle.txn_data.specs.declared.written.Written.{Written}
 use Rattle.txn_data.specs.declared.event.Event.{Event}
-use Rattle.txn_data.specs.declared.event.Event.TheVariants.{Serve, Tell}
+use Rattle.txn_data.specs.declared.event.Event.TheVariants.{Tell}
 use Rattle.txn_data.specs.declared.entry.Entry.{Entry}
 use Rattle.txn_types.specs.Lists.{Member}
 use Rattle.txn_types.specs.History.{History}
@@ -17,9 +16,10 @@ use Rattle.txn_types.specs.Reads.{before_start, is_commit_of}
 use Rattle.txn_types.specs.Run.{Run, mover_at}
 use Rattle.run_machines.specs.Own.{StandsOver}
 use Rattle.run_machines.proofs.Basics.{eq_true, map_member}
-use Rattle.run_machines.proofs.Owns.{member_stands, stands_member}
+use Rattle.run_machines.proofs.Owns.{member_stands, stands_member, counting_part}
 use Rattle.run_clocks.proofs.Runs.{member_before}
 use Rattle.run_messages.proofs.Rules.{entry}
+use Rattle.run_owners.proofs.Runs.{IsSingleOf, single_uses}
 use Rattle.run_fates.specs.Laws.{CommittedAt}
 use Rattle.run_fates.proofs.Runs.{told_committed}
 use Rattle.run_sessions.proofs.Runs.{commit_of, no_write_after}
@@ -27,13 +27,13 @@ use Rattle.run_numbers.proofs.Begins.{numbered_write}
 use Rattle.run_courses.specs.Course.{IsPart}
 use Rattle.run_courses.proofs.Courses.{told_came_about}
 use Rattle.run_courses.proofs.Parts.{part_member}
-use Rattle.run_steady.proofs.Says.{ToldBy, WasTold}
-use Rattle.run_steady.proofs.Commits.{Begins, IsSingleOf as Singles_, tells_fate, committed_begun, one_user, begins_uses, single_uses, not_both, line_came}
+use Rattle.run_told_commits.proofs.Says.{ToldBy, WasTold}
+use Rattle.run_told_commits.proofs.Commits.{Begins, tells_fate, committed_begun, one_user, begins_uses, not_both, line_came}
 use Rattle.run_values.specs.Laws.{Ranked}
 use Rattle.run_versions.specs.Laws.{MakesVersion}
-use Rattle.run_versions.proofs.Same.{IsSingleOf, Kind, Writes, Singles, write_and_single}
+use Rattle.run_versions.proofs.Same.{Kind, Writes, Singles, write_and_single}
 use Rattle.run_folds.proofs.Ranks.{ranks, first, snapshot_entry, single_ranks}
-use Rattle.run_folds.proofs.Made.{counting_part, Snapshot, Single, kind_of, its}
+use Rattle.run_folds.proofs.Made.{Snapshot, Single, kind_of, its}
 
 -- ## what was told was served
 
@@ -110,16 +110,8 @@ part_or_later low (g ∷ h) before e part stands = elim part [
   ]
 ]
 
-pub to_single : (x : ℕ) (event : Event) → Singles_ x event → IsSingleOf x event
-to_single x (Serve from (request.Single y path o seen fates) r time append) is = is
-to_single x event is = absurd is
-
-pub from_single : (x : ℕ) (event : Event) → IsSingleOf x event → Singles_ x event
-from_single x (Serve from (request.Single y path o seen fates) r time append) is = is
-from_single x event is = absurd is
-
 -- it was told of a snapshot transaction that is committed there, or it was a single write
-pub told_kind : (config : Config) (o : History) (x at : ℕ) → Run config o → WasTold o x at → CommittedAt o x at ⊎ ((e : Entry) × Member e o × Singles_ x e.event)
+pub told_kind : (config : Config) (o : History) (x at : ℕ) → Run config o → WasTold o x at → CommittedAt o x at ⊎ ((e : Entry) × Member e o × IsSingleOf x e.event)
 told_kind config o x at run was = elim (tells_fate x at was.0.event was.2) [
   | inl tells ↦ inl (told_committed config o was.0 x at run was.1 tells)
   | inr single ↦ inr (was.0, was.1, single)
@@ -131,13 +123,13 @@ after_commit config h o before e x at n run run_o part later stands m committed 
     no_write_after config h before e k.entry x run stands (numbered_write x n e.event number) (part_member k.entry o before later k.member) k.end
 after_commit config h o before e x at n run run_o part later stands m committed (Singles single) =
     let b = committed_begun config o x at run_o committed in
-    let same = one_user config h b.0 e x run (part_member b.0 o h part b.1) m (begins_uses x b.0.event b.2) (single_uses x e.event (from_single x e.event single)) in
-    not_both x e.event (subst (λ (g : Entry). Begins x g.event) same b.2) (from_single x e.event single)
+    let same = one_user config h b.0 e x run (part_member b.0 o h part b.1) m (begins_uses x b.0.event b.2) (single_uses x e.event single) in
+    not_both x e.event (subst (λ (g : Entry). Begins x g.event) same b.2) single
 
-after_single : (config : Config) (h o : History) (e f : Entry) (x n : ℕ) → Run config h → IsPart o h → Member e h → Member f o → Singles_ x f.event → Kind x n e.event → Member e o
-after_single config h o e f x n run part m of_f single (Writes number) = absurd (write_and_single config h e f x n run m (part_member f o h part of_f) number (to_single x f.event single))
+after_single : (config : Config) (h o : History) (e f : Entry) (x n : ℕ) → Run config h → IsPart o h → Member e h → Member f o → IsSingleOf x f.event → Kind x n e.event → Member e o
+after_single config h o e f x n run part m of_f single (Writes number) = absurd (write_and_single config h e f x n run m (part_member f o h part of_f) number single)
 after_single config h o e f x n run part m of_f single (Singles mine) =
-    let same = one_user config h f e x run (part_member f o h part of_f) m (single_uses x f.event single) (single_uses x e.event (from_single x e.event mine)) in
+    let same = one_user config h f e x run (part_member f o h part of_f) m (single_uses x f.event single) (single_uses x e.event mine) in
     subst (λ (g : Entry). Member g o) same of_f
 
 -- so it stands where its commit was told

@@ -1,5 +1,5 @@
 -- The laws of what was heard in every run.
-use Rattle.std.proofs.Common.{ℕ, List, ◌∷◌, subst, ◌⊎◌}
+use Rattle.std.proofs.Common.{ℕ, List, subst, ◌⊎◌}
 use Rattle.txn_data.specs.declared.actor.Actor.{Actor}
 use Rattle.txn_data.specs.declared.config.Config.{Config}
 use Rattle.txn_data.specs.declared.fate.Fate.TheVariants as fate
@@ -9,9 +9,9 @@ use Rattle.txn_data.specs.declared.event.Event.{Event}
 use Rattle.txn_data.specs.declared.event.Event.TheVariants.{Serve}
 use Rattle.txn_data.specs.declared.entry.Entry.{Entry}
 use Rattle.txn_types.specs.History.{History}
-use Rattle.txn_types.specs.Run.{Run, Steps}
+use Rattle.txn_types.specs.Run.{Run}
 use Rattle.run_machines.specs.Own.{StandsOver}
-use Rattle.run_machines.proofs.Owns.{steps_at}
+use Rattle.run_machines.proofs.Owns.{run_until}
 use Rattle.run_messages.proofs.Rules.{GoodServe}
 use Rattle.run_messages.proofs.Runs.{good_of}
 use Rattle.run_fates.proofs.Runs.{told_committed}
@@ -34,12 +34,6 @@ applied : (before : History) (a : Actor) (event : Event) (x c : ℕ) → GoodSer
 applied before a (Serve from (request.Apply y at) r time append) x c good is =
     subst (λ (d : ℕ). WasTold before x (fate.Committed d)) is.1 (subst (λ (z : ℕ). WasTold before z (fate.Committed at)) is.0 good)
 applied before a event x c good is = absurd is
-
-pub run_until : (config : Config) (h before : History) (e : Entry) → Run config h → StandsOver e before h → Run config before
-unfolding Steps
-run_until config h before e run stands =
-    let up_to : Steps config (e ∷ before) = steps_at config e before h run.1 stands in
-    (run.0, up_to.0)
 
 pub applies_committed : AppliesAreOfCommits
 applies_committed config h before e x c run stands is =

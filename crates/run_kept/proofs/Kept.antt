@@ -25,7 +25,7 @@ use Rattle.txn_types.specs.Run.{Run, Serves}
 use Rattle.run_machines.specs.Own.{landed, StandsOver, ServesNext}
 use Rattle.run_machines.proofs.Basics.{same_cases, same_true, eq_true, member_cases, filter_member, member_filter}
 use Rattle.run_machines.proofs.Counted.{counted, counting_own, counts_served, own_all, WasServed}
-use Rattle.run_machines.proofs.Owns.{serves_own, serves_at, stands_member, stands_trans, member_stands, member_own, own_member, Before, After, One, in_order}
+use Rattle.run_machines.proofs.Owns.{serves_own, serves_at, stands_member, stands_trans, member_stands, member_own, own_member, Before, After, One, in_order, run_until}
 use Rattle.run_machines.proofs.Landed.{logged, standing_landed}
 use Rattle.run_machines.proofs.Lands.{Grows, Same, grows_entry}
 use Rattle.run_machines.proofs.Since.{since_all, own_stands}
@@ -33,17 +33,17 @@ use Rattle.run_clocks.proofs.Runs.{member_before}
 use Rattle.run_owners.specs.Owner.{home_of}
 use Rattle.run_owners.proofs.Founds.{standing_part}
 use Rattle.run_fates.specs.Laws.{CommittedAt}
-use Rattle.run_fates.proofs.Life.{Life, Finished, life, life_grows, IsNotBefore}
+use Rattle.run_fates.proofs.Life.{life, life_grows}
 use Rattle.run_fates.proofs.Runs.{home_log, committed_finished, told_aborted}
-use Rattle.run_sessions.specs.Laws.{IsLogged, IsEndOf, IsWriteOf, IsCoveredBy, IsOn}
-use Rattle.run_sessions.proofs.Tables.{Written, Accepted, Faulty, Turned, written}
+use Rattle.run_opened.proofs.Tables.{Written, written, took_of}
+use Rattle.run_opened.specs.Transaction.{IsLogged, IsEndOf, IsWriteOf, IsCoveredBy, IsOn}
 use Rattle.run_sessions.proofs.Runs.{no_write_after, commits_cover}
 use Rattle.run_heard.specs.Laws.{AppliesAt, CleansOf}
-use Rattle.run_heard.proofs.Runs.{run_until, applies_committed}
+use Rattle.run_heard.proofs.Runs.{applies_committed}
 use Rattle.run_tablets.proofs.Cleared.{applied_stays}
 use Rattle.run_passes.proofs.Runs.{cleans_begun}
 use Rattle.run_forgotten.specs.Laws.{CommitsWith, IsForgotten}
-use Rattle.run_forgotten.proofs.Forgotten.{told_absent}
+use Rattle.run_forgotten.proofs.Forgotten.{told_absent, same_time}
 use Rattle.run_kept.specs.Laws.{IsKept, CommittedIsKept}
 use Rattle.run_kept.proofs.Landing.{Makes, Keeps, AllKept, kept_lands}
 
@@ -62,15 +62,12 @@ grows_prefix a e before (f ∷ h) stands = elim stands [
       | inr s ↦ rw s.0 grows
     ]
 
-same_end : (v w : Life) (c d : ℕ) → v ≡ Finished d → IsNotBefore v w → w ≡ Finished c → d ≡ c
-same_end v w c d is step end = let later : w ≡ Finished d = subst (λ (z : Life). IsNotBefore z w) is step in cc
-
 pub apply_time : (config : Config) (h before : History) (e : Entry) (x at c : ℕ) → Run config h → StandsOver e before h → AppliesAt x at e.event → CommittedAt h x c → at ≡ c
 apply_time config h before e x at c run stands applies committed =
     let until = run_until config h before e run stands in
     let was = committed_finished config before x at until (applies_committed config h before e x at run stands applies) in
     let end = committed_finished config h x c run committed in
-    same_end (life x (home_log config x before)) (life x (home_log config x h)) c at was
+    same_time (life x (home_log config x before)) (life x (home_log config x h)) c at was
     (life_grows x (home_log config x before) (home_log config x h) (grows_prefix (Status (home_of config x)) e before h stands)) end
 
 -- ## and it is never cleaned
@@ -224,11 +221,6 @@ all_kept config h before k x c run within committed =
     let at = own_actor a e before (stands_member e first (own a before) there) in
     keeps_event x c e.event (λ time applies. apply_time config h up.0 e x time c run stands applies committed)
     (λ cleans. clean_never config h up.0 e x c k run stands at logs cleans committed))).now
-
-took_of : (w : ℕ) (time : Option ℕ) (append : Append) → Written (reply.Written w) time append → append ≡ Took
-took_of w time append (Accepted v is at took) = took
-took_of w time append (Faulty is) = cc
-took_of w time append (Turned why is none nothing) = cc
 
 written_event : (lease k : ℕ) (o : History) (reading : Option ℕ) (m : Actor) (meta : Meta) (number : ℕ) (path : Parts) (op : Op) (read seen : ℕ) (fates : List FateOf) (w : ℕ) (append : Append) →
     Serves lease (Tablet k) o reading (request.Write meta number path op read seen fates) (reply.Written w) (Some w) append →

@@ -36,7 +36,7 @@ made_event x c ps vs (Serve from (request.Write meta number path op read seen fa
     inl (member_right p ps ((record { meta = meta; number = number; path = path; op = op; wrote = w }) ∷ []) (inl is.1))
 made_event x c ps vs event p is = absurd is
 
-not_of : (b : Bool) → b ≡ false → not b ≡ true
+pub not_of : (b : Bool) → b ≡ false → not b ≡ true
 not_of true is = cc
 not_of false is = refl
 

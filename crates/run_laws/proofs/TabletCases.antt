@@ -1,50 +1,40 @@
--- Histories that are no runs, whatever stands before: each passes over a version or a provisional record of a tablet.
-use Rattle.std.proofs.Common.{◌≡◌, ℕ, max, Bool, true, false, not, ◌&&◌, List, [], ◌∷◌, Option, Some, None, Result, Ok, Err, map, filter, nat_le, refl, sym, subst, inl, inr, if◌then◌else◌, arith}
+-- Histories that are no runs, whatever stands before: one entry passes over a provisional record, a commit or a version.
+use Rattle.std.proofs.Common.{◌≡◌, ℕ, max, Bool, true, false, not, ◌&&◌, List, [], ◌∷◌, Option, Some, None, Result, Ok, Err, map, filter, nat_le, refl, subst, inl, inr, if◌then◌else◌, arith}
 use Rattle.std.proofs.lemmas.Bool.{le-leb}
 use Rattle.std.specs.List.{list_any}
 use Rattle.hybrid_time.specs.declared.time_refusal.TimeRefusal.{TimeRefusal}
-use Rattle.doc_path.specs.Path.{Parts, related}
+use Rattle.doc_path.specs.Path.{related}
 use Rattle.txn_data.specs.declared.actor.Actor.TheVariants.{Tablet, Session}
 use Rattle.txn_data.specs.declared.append.Append.TheVariants.{Nothing, Took}
 use Rattle.txn_data.specs.declared.config.Config.{Config}
 use Rattle.txn_data.specs.declared.fate.Fate.TheVariants as fate
-use Rattle.txn_data.specs.declared.fate_of.FateOf.{FateOf}
 use Rattle.txn_data.specs.declared.found.Found.{Found}
-use Rattle.txn_data.specs.declared.met_at.MetAt.{MetAt}
 use Rattle.txn_data.specs.declared.op.Op.TheVariants.{Delete}
-use Rattle.txn_data.specs.declared.read_kind.ReadKind.{ReadKind}
-use Rattle.txn_data.specs.declared.read_kind.ReadKind.TheVariants.{Get}
 use Rattle.txn_data.specs.declared.refusal.Refusal.{Refusal}
 use Rattle.txn_data.specs.declared.refusal.Refusal.TheVariants as refusal
 use Rattle.txn_data.specs.declared.reply.Reply.{Reply}
 use Rattle.txn_data.specs.declared.reply.Reply.TheVariants as reply
 use Rattle.txn_data.specs.declared.request.Request.TheVariants as request
-use Rattle.txn_data.specs.declared.row.Row.{Row}
-use Rattle.txn_data.specs.declared.version.Version.{Version}
-use Rattle.txn_data.specs.declared.window.Window.{Window}
 use Rattle.txn_data.specs.declared.event.Event.TheVariants.{Serve}
 use Rattle.txn_data.specs.declared.entry.Entry.{Entry}
 use Rattle.txn_types.specs.Lists.{Member, or_zero}
 use Rattle.txn_types.specs.History.{History, own, was_logged, counting, counting_before}
-use Rattle.txn_types.specs.Clock.{Floor, refused, told_only, timed_answer, logged, lease_due, holds, lease_end, has_given, clock_time, last_time, down_since}
-use Rattle.txn_types.specs.Tablet.{Intent, txn_of, is_own, first_fate, version_at, provisional, provisional_over, versions, home_in, founds, listed, local_limit, considered, under_fate, is_met, better_met, met_in, collected, tablet_standing}
+use Rattle.txn_types.specs.Clock.{Floor, refused, timed_answer, logged, lease_due, holds, lease_end, has_given, clock_time, last_time, down_since}
+use Rattle.txn_types.specs.Tablet.{Intent, txn_of, is_own, provisional, provisional_over, home_in, founds, listed, local_limit, tablet_standing}
 use Rattle.txn_types.specs.Run.{Run, Serves}
-use Rattle.run_machines.proofs.Basics.{member_right, member_map, member_filter}
+use Rattle.run_machines.proofs.Basics.{member_right, member_map, member_filter, member_rising}
 use Rattle.run_machines.proofs.Counted.{counts_served}
-use Rattle.run_machines.proofs.Owns.{serves_at, member_own, counted_counting}
+use Rattle.run_machines.proofs.Owns.{serves_at, member_own, counted_counting, run_until}
 use Rattle.run_fates.proofs.Runs.{told_committed}
-use Rattle.run_sessions.proofs.Open.{begun_more}
+use Rattle.run_opened.specs.Transaction.{Begun}
 use Rattle.run_sessions.proofs.Runs.{writes_begun}
-use Rattle.run_heard.proofs.Runs.{run_until}
 use Rattle.run_forgotten.proofs.Forgotten.{told_absent}
 use Rattle.run_kept.proofs.Kept.{forgotten_none}
-use Rattle.run_order.proofs.Found.{member_rising, member_mapped}
 use Rattle.run_order.proofs.Order.{in_commit_order}
-use Rattle.run_values.proofs.Orders.{sorted_into}
-use Rattle.run_laws.proofs.Cases.{x, doc, meta, at_status, at_tablet, commits, writes, lists}
+use Rattle.run_laws.proofs.Cases.{x, doc, meta, at_status, at_tablet, commits, writes, asks_to_commit, lists}
 
 -- the provisional record of its write at this time
-abbrev record_of : ℕ → Intent
+abbrev pub record_of : ℕ → Intent
 record_of w = record { meta = meta; number = 0; path = doc; op = Delete; wrote = w }
 
 is_provisional : (w : ℕ) (o : History) → Member (record_of w) (provisional (writes w ∷ o))
@@ -92,75 +82,20 @@ read_ignores_record config h run =
     (λ t. listed None (doc ∷ []) 10 (local_limit None t 8191) (provisional o)) served.replied in
     none_listed (provisional o) (local_limit None now.0 8191) 10 (is_provisional 5 (own (Tablet 0) h)) now.1
 
--- ## a window that holds the commit time against the local limit
-
-chosen_none : (b : Bool) (v : Version) (rest : Option MetAt) → (if b then Some (better_met v rest) else rest) ≡ None → (b ≡ false) × (rest ≡ None)
-chosen_none true v rest is = cc
-chosen_none false v rest is = (refl, is)
-
-none_met : (w : Window) (t : ℕ) (paths : List Parts) (vs : List Version) (v : Version) → met_in w t paths vs ≡ None → Member v vs → is_met w t paths v ≡ false
-unfolding met_in
-none_met w t paths [] v is m = absurd m
-none_met w t paths (u ∷ vs) v is m =
-    let none = chosen_none (is_met w t paths u) u (met_in w t paths vs) is in
-    elim m [
-      | inl here ↦ subst (λ (z : Version). is_met w t paths z ≡ false) (sym here) none.0
-      | inr later ↦ none_met w t paths vs v none.1 later
-    ]
-
-collected_none : (kind : ReadKind) (paths : List Parts) (t : ℕ) (vs : List Version) (m : Option MetAt) (rows : List Row) → reply.Collected rows ≡ collected kind paths t vs m → m ≡ None
-collected_none kind paths t vs (Some m) rows is = cc
-collected_none kind paths t vs None rows is = refl
-
-up_collected : (d : Option ℕ) (rows : List Row) (r : Reply) → reply.Collected rows ≡ (tablet_standing d (told_only r)).reply → reply.Collected rows ≡ r
-up_collected (Some n) rows r is = cc
-up_collected None rows r is = is
-
-abbrev window : Window
-window = record { g = 8191; limit = 7 }
-
--- the read was told that the transaction is committed at 9
-abbrev told_nine : List FateOf
-told_nine = (record { txn = x; fate = fate.Committed 9 }) ∷ []
-
--- a read at 6 with the window up to 8191 and the local limit 7 collects, and meets nothing
-abbrev collects : List Row → Entry
-collects rows = record {
-  actor = Tablet 0;
-  reading = None;
-  event = Serve (Session 2) (request.Collect None Get (doc ∷ []) 6 (Some window) told_nine) (reply.Collected rows) None Nothing;
-}
-
-is_considered : (ps : List Intent) (vs : List Version) → Member (record_of 5) ps → Member (version_at 9 (record_of 5)) (considered None told_nine ps vs)
-unfolding first_fate
-is_considered ps vs m =
-    member_right (version_at 9 (record_of 5)) vs _
-    (member_mapped (under_fate told_nine) (record_of 5) (version_at 9 (record_of 5)) _
-    (sorted_into (λ (p q : Intent). nat_le (txn_of p) (txn_of q)) (record_of 5) _ (member_filter (λ (p : Intent). not (is_own None (txn_of p))) (record_of 5) ps m refl)) refl)
-
--- the write at 5 is within the limit, though its commit at 9 is not
-limit_on_commit_times : (config : Config) (h : History) (rows : List Row) → Run config (collects rows ∷ writes 5 ∷ h) → ⊥
-limit_on_commit_times config h rows run =
-    let o = own (Tablet 0) (writes 5 ∷ h) in
-    let vs = considered None told_nine (provisional o) (versions o) in
-    let served : Serves config.lease_us (Tablet 0) o None (request.Collect None Get (doc ∷ []) 6 (Some window) told_nine) (reply.Collected rows) None Nothing = serves_at config (collects rows) (writes 5 ∷ h) (collects rows ∷ writes 5 ∷ h) run.1 (inl (refl, refl)) in
-    let none = collected_none Get (doc ∷ []) 6 vs (met_in window 6 (doc ∷ []) vs) rows (up_collected (down_since o) rows (collected Get (doc ∷ []) 6 vs (met_in window 6 (doc ∷ []) vs)) served.replied) in
-    let unmet : true ≡ false = none_met window 6 (doc ∷ []) vs (version_at 9 (record_of 5)) none (is_considered (provisional o) (versions o) (is_provisional 5 (own (Tablet 0) h))) in
-    cc
-
 -- ## a commit that is forgotten too early
 
 -- someone is told that it is absent
 abbrev absent : Entry
 absent = at_status (Serve (Session 2) (request.AskFate x 20) (reply.FateIs fate.Absent) (Some 20) Nothing)
 
-forgotten_too_early : (config : Config) (h : History) → Run config (absent ∷ commits 5 9 ∷ writes 5 ∷ h) → ⊥
-forgotten_too_early config h run =
-    let before = commits 5 9 ∷ writes 5 ∷ h in
+forgotten_too_early : (config : Config) (h : History) (number : ℕ) → Run config (absent ∷ commits 5 9 ∷ asks_to_commit number 5 5 h) → ⊥
+forgotten_too_early config h number run =
+    let before = commits 5 9 ∷ asks_to_commit number 5 5 h in
     let all = absent ∷ before in
-    let begun = begun_more x (commits 5 9) (writes 5 ∷ h) (begun_more x (writes 5) h (writes_begun config all h (writes 5) x run (inr (inr (inl (refl, refl)))) refl)) in
+    let begun = writes_begun config all h (writes 5) x run (inr (inr (inr (inr (inr (inr (inl (refl, refl)))))))) refl in
+    let still : Begun before x = (begun.0, inr (inr (inr (inr (inr (inr begun.1))))), begun.2) in
     let committed = told_committed config all (commits 5 9) x 9 run (inr (inl refl)) (refl, refl) in
-    let gone = told_absent config all before absent x 9 run (inl (refl, refl)) begun (refl, refl) committed in
+    let gone = told_absent config all before absent x 9 run (inl (refl, refl)) still (refl, refl) committed in
     forgotten_none config before x 9 0 (record_of 5) (run_until config all before absent run (inl (refl, refl))) gone (is_provisional 5 (own (Tablet 0) h)) refl
 
 -- ## a write on top of a later version
@@ -172,12 +107,12 @@ y = 36893488147419103233
 abbrev single : Entry
 single = at_tablet (Serve (Session 2) (request.Single y doc Delete 0 []) (reply.SingleDone 9) (Some 9) Took)
 
--- it read at 0, and a version at 9 was there
-write_over_later_version : (config : Config) (h : History) → Run config (commits 12 20 ∷ writes 12 ∷ single ∷ h) → ⊥
-write_over_later_version config h run =
-    let all = commits 12 20 ∷ writes 12 ∷ single ∷ h in
-    let counts : Member single (counting all) = counted_counting single (Tablet 0) all (counts_served single false (own (Tablet 0) all) (member_own single (Tablet 0) all refl (inr (inr (inl refl)))) tt) in
+-- it read at 0, and a version at 9 was there; then it commits
+write_over_later_version : (config : Config) (h : History) (number : ℕ) → Run config (commits 12 20 ∷ asks_to_commit number 12 12 (single ∷ h)) → ⊥
+write_over_later_version config h number run =
+    let all = commits 12 20 ∷ asks_to_commit number 12 12 (single ∷ h) in
+    let counts : Member single (counting all) = counted_counting single (Tablet 0) all (counts_served single false (own (Tablet 0) all) (member_own single (Tablet 0) all refl (inr (inr (inr (inr (inr (inr (inl refl)))))))) tt) in
     let committed = told_committed config all (commits 12 20) x 20 run (inl refl) (refl, refl) in
-    let order = in_commit_order config all (single ∷ h) single (writes 12) y x 9 20 doc doc run (inr (inl (refl, refl))) (inl refl) refl (refl, refl, refl, counts) (refl, refl, committed) (λ is. omega (arith, is)) refl in
+    let order = in_commit_order config all (single ∷ h) single (writes 12) y x 9 20 doc doc run (inr (inr (inr (inr (inr (inl (refl, refl))))))) (inl refl) refl (refl, refl, refl, counts) (refl, refl, committed) (λ is. omega (arith, is)) refl in
     let low = order.1 in
     omega (arith, low)

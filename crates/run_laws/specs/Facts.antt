@@ -4,6 +4,7 @@ use Rattle.run_clocks.specs.Laws.{TimesRise, TimesKeepFloors, CountsForGood, Lea
 use Rattle.run_owners.specs.Laws.{PendingIsKept}
 use Rattle.run_fates.specs.Laws.{CommitsOnce, ToldCommittedIs, ToldAbortedNeverCommits, PendingCommitsAbove}
 use Rattle.run_sessions.specs.Laws.{WritesAreBegun, NoWriteAfterEnd, CommitsCover, CommitsAboveWrites}
+use Rattle.run_told_commits.specs.Laws.{ToldCommitsAreThere, CommitTimesAreTold}
 use Rattle.run_tablets.specs.Laws.{AppliedStaysApplied}
 use Rattle.run_forgotten.specs.Laws.{ToldAbsentIsForgotten}
 use Rattle.run_kept.specs.Laws.{CommittedIsKept, CommittedIsRecorded}
@@ -32,10 +33,13 @@ pub record CommitTimes : Type 0 where
   pub once : CommitsOnce
   pub above : CommitsAboveWrites
 
--- what is told of a transaction is so
+-- what is told of a transaction is so; and where a session is told Committed, single writes among them, a commit is there,
+-- at that time and at no other
 pub record ToldFates : Type 0 where
   pub committed : ToldCommittedIs
   pub aborted : ToldAbortedNeverCommits
+  pub there : ToldCommitsAreThere
+  pub times : CommitTimesAreTold
 
 -- a session's own order: a transaction writes only after its Begin and before its end, and its commit covers what it wrote
 pub record SessionOrder : Type 0 where

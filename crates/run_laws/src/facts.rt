@@ -16,7 +16,8 @@ pub fn commit_times()
     ensures { CommitTimes }
 {}
 
-/// What is told Committed is committed at that time, and what is told Aborted never commits.
+/// What is told Committed is committed at that time, and what is told Aborted never commits. Where a session is told
+/// Committed, a commit is in the history, at the time told and at no other.
 pub fn told_fates()
     ensures { ToldFates }
 {}

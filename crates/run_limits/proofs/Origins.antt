@@ -27,7 +27,7 @@ use Rattle.run_reads.specs.Visits.{Wanted, list_entry, collect_entry}
 use Rattle.run_reads.specs.Laws.{wanted_at, window_end}
 use Rattle.run_windows.proofs.Windows.{WindowOf, HasWindow, begin_still, not_again, windows_at}
 use Rattle.run_limits.specs.Laws.{WasListed, low_of, IsFixed, LimitsOfReadsWereFixed}
-use Rattle.run_limits.proofs.Runs.{limits_fixed}
+use Rattle.run_limits.proofs.Runs.{limits_fixed, start_still}
 
 -- ## the begin of a transaction that was told stays where it is
 
@@ -62,10 +62,6 @@ record Started (m : Actor) (h : History) : Type 0 where
 started_more : (m : Actor) (e : Entry) (h : History) → before_start m (e ∷ h) ≡ before_start m h → Started m h → Started m (e ∷ h)
 started_more m e h same s = record { entry = s.entry; stands = inr (subst (λ (z : History). StandsOver s.entry z h) (sym same) s.stands); mine = s.mine; start = s.start }
 
-same_start : (m : Actor) (e : Entry) (h : History) → (same_actor e.actor m && is_start e.event) ≡ false → before_start m (e ∷ h) ≡ before_start m h
-unfolding before_start
-same_start m e h is = rw is refl
-
 here_start : (m : Actor) (e : Entry) (h : History) → same_actor e.actor m ≡ true → is_start e.event ≡ true → before_start m (e ∷ h) ≡ h
 unfolding before_start
 here_start m e h one two = rw (one, two) refl
@@ -95,9 +91,9 @@ started config m (e ∷ h) line is = elim (same_cases e.actor m) [
     | inl start ↦ record { entry = e; stands = inl (refl, sym (here_start m e h own.0 start)); mine = own.1; start = start }
     | inr not ↦
         let before = line_event config m (mover_at config m h) e.reading e.event line (rw own.0 at is) not in
-        started_more m e h (same_start m e h (and_false (same_actor e.actor m) (is_start e.event) own.0 not)) (started config m h before.0 before.1)
+        started_more m e h (start_still m e h (and_false (same_actor e.actor m) (is_start e.event) own.0 not)) (started config m h before.0 before.1)
   ]
-  | inr other ↦ started_more m e h (same_start m e h (false_and (same_actor e.actor m) (is_start e.event) other.0)) (started config m h line (rw other.0 at is))
+  | inr other ↦ started_more m e h (start_still m e h (false_and (same_actor e.actor m) (is_start e.event) other.0)) (started config m h line (rw other.0 at is))
 ]
 
 both_start : (m : Actor) (f : Entry) (g : History) → (same_actor f.actor m && is_start f.event) ≡ true → before_start m (f ∷ g) ≡ g
@@ -112,7 +108,7 @@ start_above m s z (f ∷ g) mine start part = elim part [
   | inl is ↦ subst (λ (l : History). IsPart z (before_start m l)) is (subst (λ (l : History). IsPart z l) (sym (here_start m s z (same_of s.actor m mine) start)) (part_refl z))
   | inr more ↦ elim (test_cases (same_actor f.actor m && is_start f.event)) [
     | inl yes_it ↦ subst (λ (l : History). IsPart z l) (sym (both_start m f g yes_it)) (part_tail s z g more)
-    | inr not ↦ subst (λ (l : History). IsPart z l) (sym (same_start m f g not)) (start_above m s z g mine start more)
+    | inr not ↦ subst (λ (l : History). IsPart z l) (sym (start_still m f g not)) (start_above m s z g mine start more)
   ]
 ]
 

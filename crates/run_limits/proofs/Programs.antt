@@ -30,7 +30,7 @@ use Rattle.txn_data.specs.declared.told_refusal.ToldRefusal.{ToldRefusal}
 use Rattle.txn_data.specs.declared.told_refusal.ToldRefusal.TheVariants as told_refusal
 use Rattle.txn_types.specs.History.{History}
 use Rattle.txn_types.specs.Program.{Program, Done, Asks, Reads, then_do, refusal_told}
-use Rattle.txn_types.specs.ReadProgram.{Progress, tablets_of, limit_of, with_limit, read_refused, ask_fates, visit, with_rows, read_done, round_two, restarted, met_then, round_one, read_program}
+use Rattle.txn_types.specs.ReadProgram.{Progress, tablets_of, limit_of, with_limit, ask_fates, visit, with_rows, read_done, round_two, restarted, met_then, round_one, read_program}
 use Rattle.txn_types.specs.ReadProgram.{Asked as Query}
 use Rattle.txn_types.specs.Reads.{txn_of}
 use Rattle.txn_types.specs.TxnProgram.{refused, write_refused, txn_program}
@@ -38,7 +38,7 @@ use Rattle.txn_types.specs.PassProgram.{pass_program}
 use Rattle.txn_types.specs.Session.{Keeps, Opened, next_meta, timed_then, begin_program, read_told, read_at, read_inside, read_command, has_writes, writes_of, write_command, commit_command, abort_command, if_closed, restart_program, command_program}
 use Rattle.txn_types.specs.Run.{limits_of}
 use Rattle.run_machines.proofs.Basics.{eq_true}
-use Rattle.run_messages.proofs.Shapes.{Always, OfPasses, OfFinding, pass_always, find_always}
+use Rattle.run_messages.proofs.Shapes.{Always, OfPasses, OfFinding, pass_always, find_always, one_next, two_next}
 use Rattle.run_limits.specs.Laws.{WasFixed}
 
 -- ## what is asked and heard
@@ -232,21 +232,6 @@ visit_goes m o h a s windowed k next is_for are goes = (
     | _ ↦ λ is. tt
   ],
 )
-
-abbrev two_next : Query → ℕ → List ℕ → Progress → Reply → Program ReadEnd
-two_next a k ks seen answer = elim answer [
-  | reply.Collected rows ↦ round_two a (with_rows k rows seen) ks
-  | reply.Refused why ↦ read_refused (refusal_told (Tablet k) why) seen
-  | _ ↦ read_refused told_refusal.Memory seen
-]
-
-abbrev one_next : Query → ℕ → List ℕ → Progress → Reply → Program ReadEnd
-one_next a k ks seen answer = elim answer [
-  | reply.Collected rows ↦ round_one a (with_rows k rows seen) ks
-  | reply.Met at path ↦ met_then a.strict (what.Restart at path) seen (round_one a (restarted at seen) ks)
-  | reply.Refused why ↦ read_refused (refusal_told (Tablet k) why) seen
-  | _ ↦ read_refused told_refusal.Memory seen
-]
 
 two_goes : (m : Actor) (o : Option Opened) (h : History) (a : Query) (s : Progress) (ks : List ℕ) → IsFor o a → LimitsAreFixed h m (txn_of o) a.g s.limits → Goes m o h (round_two a s ks)
 unfolding round_two

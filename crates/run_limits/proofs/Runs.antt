@@ -39,7 +39,7 @@ use Rattle.run_limits.proofs.Movers.{FlightIsSo, MoverIsSo, stays, starts, asks,
 
 -- ## what was fixed stays so
 
-start_still : (m : Actor) (e : Entry) (h : History) → (same_actor e.actor m && is_start e.event) ≡ false → before_start m (e ∷ h) ≡ before_start m h
+pub start_still : (m : Actor) (e : Entry) (h : History) → (same_actor e.actor m && is_start e.event) ≡ false → before_start m (e ∷ h) ≡ before_start m h
 unfolding before_start
 start_still m e h is = rw is refl
 

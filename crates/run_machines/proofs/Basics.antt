@@ -1,9 +1,11 @@
 -- Members of lists, actors, and tests that decide.
-use Rattle.std.proofs.Common.{◌≡◌, ◌≢◌, ℕ, Bool, true, false, cond, List, [], ◌∷◌, ◌++◌, nat_eq, map, filter, flat_map, refl, sym, ◌∙◌, ap, subst, inl, inr, ◌⊎◌}
+use Rattle.std.proofs.Common.{◌≡◌, ◌≢◌, ℕ, Bool, true, false, cond, List, [], ◌∷◌, ◌++◌, nat_eq, map, filter, flat_map, refl, sym, ◌∙◌, ap, subst, inl, inr, ◌⊎◌, if◌then◌else◌, nat_lt}
 use Rattle.std.proofs.lemmas.Bool.Decides.{eqb_tells}
+use Rattle.std.proofs.lemmas.Bool.{or_cases}
+use Rattle.std.specs.List.{list_any}
 use Rattle.txn_data.specs.declared.actor.Actor.{Actor}
 use Rattle.txn_data.specs.declared.actor.Actor.TheVariants.{Tablet, Status, Session, Applier}
-use Rattle.txn_types.specs.Lists.{Member}
+use Rattle.txn_types.specs.Lists.{Member, with_number, rising, inserted_by, sorted_by}
 use Rattle.txn_types.specs.History.{same_actor}
 
 pub eq_refl : (a : ℕ) → nat_eq a a ≡ true
@@ -106,3 +108,53 @@ flat_member f y (x ∷ xs) m = elim (member_cases y (f x) (flat_map f xs) m) [
 pub same_choice : {A : Type 0} (b : Bool) (x : A) → cond b x x ≡ x
 same_choice true x = refl
 same_choice false x = refl
+
+-- ## a test of some member, and rising numbers
+
+pub any_member : {A : Type 0} (test : A → Bool) (xs : List A) → list_any test xs ≡ true → (a : A) × Member a xs × (test a ≡ true)
+any_member test [] is = cc
+any_member test (x ∷ xs) is = elim (or_cases (test x) (list_any test xs) is) [
+  | inl here ↦ (x, inl refl, here)
+  | inr later ↦ let r = any_member test xs later in (r.0, inr r.1, r.2)
+]
+
+number_choice : (b d : Bool) (x n m : ℕ) (ms : List ℕ) → nat_eq n m ≡ d → (x ≡ n) ⊎ Member x (m ∷ ms) → ((x ≡ n) ⊎ Member x ms → Member x (with_number n ms)) →
+    Member x (if b then n ∷ m ∷ ms else (if d then m ∷ ms else m ∷ with_number n ms))
+number_choice true d x n m ms same is more = is
+number_choice false true x n m ms same is more = elim is [ inl new ↦ inl (new ∙ eq_true n m same) | inr old ↦ old ]
+number_choice false false x n m ms same is more = elim is [
+  | inl new ↦ inr (more (inl new))
+  | inr old ↦ elim old [ inl here ↦ inl here | inr later ↦ inr (more (inr later)) ]
+]
+
+member_number : (x n : ℕ) (ms : List ℕ) → (x ≡ n) ⊎ Member x ms → Member x (with_number n ms)
+unfolding with_number
+member_number x n [] is = elim is [ inl new ↦ inl new | inr none ↦ absurd none ]
+member_number x n (m ∷ ms) is = number_choice (nat_lt n m) (nat_eq n m) x n m ms refl is (member_number x n ms)
+
+pub member_rising : (x : ℕ) (ns : List ℕ) → Member x ns → Member x (rising ns)
+unfolding rising
+member_rising x [] m = m
+member_rising x (n ∷ ns) m = member_number x n (rising ns) (elim m [ inl here ↦ inl here | inr later ↦ inr (member_rising x ns later) ])
+
+-- ## a list that was sorted has the same members
+
+from_choice : {A : Type 0} (b : Bool) (le : A → A → Bool) (x y z : A) (ys : List A) → Member z (if b then x ∷ y ∷ ys else y ∷ inserted_by le x ys) → (Member z (inserted_by le x ys) → (z ≡ x) ⊎ Member z ys) → (z ≡ x) ⊎ Member z (y ∷ ys)
+from_choice true le x y z ys m more = m
+from_choice false le x y z ys m more = elim m [
+  | inl here ↦ inr (inl here)
+  | inr later ↦ elim (more later) [ inl new ↦ inl new | inr old ↦ inr (inr old) ]
+]
+
+pub inserted_from : {A : Type 0} (le : A → A → Bool) (x z : A) (ys : List A) → Member z (inserted_by le x ys) → (z ≡ x) ⊎ Member z ys
+unfolding inserted_by
+inserted_from le x z [] m = m
+inserted_from le x z (y ∷ ys) m = from_choice (le x y) le x y z ys m (inserted_from le x z ys)
+
+pub sorted_from : {A : Type 0} (le : A → A → Bool) (z : A) (xs : List A) → Member z (sorted_by le xs) → Member z xs
+unfolding sorted_by
+sorted_from le z [] m = m
+sorted_from le z (x ∷ xs) m = elim (inserted_from le x z (sorted_by le xs) m) [
+  | inl here ↦ inl here
+  | inr later ↦ inr (sorted_from le z xs later)
+]

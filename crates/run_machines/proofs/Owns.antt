@@ -7,10 +7,10 @@ use Rattle.txn_data.specs.declared.event.Event.TheVariants.{Start, Ask, Serve, H
 use Rattle.txn_data.specs.declared.entry.Entry.{Entry}
 use Rattle.txn_types.specs.Lists.{Member}
 use Rattle.txn_types.specs.History.{History, same_actor, own, counting}
-use Rattle.txn_types.specs.Run.{Steps, Allowed}
+use Rattle.txn_types.specs.Run.{Steps, Allowed, Run}
 use Rattle.run_machines.specs.Own.{ServesNext, ServesAll, StandsOver}
 use Rattle.run_machines.proofs.Basics.{same_cases, same_of, member_filter, filter_member}
-use Rattle.run_machines.proofs.Counted.{counted, own_counting, AllOf}
+use Rattle.run_machines.proofs.Counted.{counted, own_counting, AllOf, counted_member}
 
 pub allowed_serves : (config : Config) (h : History) (a : Actor) (reading : Option ℕ) (event : Event) → Allowed config h a reading event → ServesNext config.lease_us a (own a h) reading event
 allowed_serves config h a reading (Serve from asked r time append) ok = ok.2
@@ -41,6 +41,13 @@ steps_at config e before (f ∷ h) steps stands = elim stands [
   | inr deeper ↦ steps_at config e before h steps.0 deeper
 ]
 
+-- what stands before an entry of a run is a run
+pub run_until : (config : Config) (h before : History) (e : Entry) → Run config h → StandsOver e before h → Run config before
+unfolding Steps
+run_until config h before e run stands =
+    let up_to : Steps config (e ∷ before) = steps_at config e before h run.1 stands in
+    (run.0, up_to.0)
+
 pub stands_own : (a : Actor) (e : Entry) (before h : History) → e.actor ≡ a → StandsOver e before h → StandsOver e (own a before) (own a h)
 stands_own a e before [] is stands = absurd stands
 stands_own a e before (f ∷ h) is stands = elim stands [
@@ -69,6 +76,10 @@ member_counted e a h is m = subst (λ (l : History). Member e l) (own_counting a
 
 pub counted_counting : (e : Entry) (a : Actor) (h : History) → Member e (counted false (own a h)) → Member e (counting h)
 counted_counting e a h m = own_member e a (counting h) (subst (λ (l : History). Member e l) (sym (own_counting a h)) m)
+
+-- what counts is an entry of the history
+pub counting_part : (e : Entry) (h : History) → Member e (counting h) → Member e h
+counting_part e h m = own_member e e.actor h (counted_member e false (own e.actor h) (member_counted e e.actor h refl m))
 
 -- what a machine sees to where one of its entries stands
 pub serves_at : (config : Config) (f : Entry) (before h : History) → Steps config h → StandsOver f before h → ServesNext config.lease_us f.actor (own f.actor before) f.reading f.event

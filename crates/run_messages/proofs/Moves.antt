@@ -15,7 +15,7 @@ use Rattle.txn_data.specs.declared.entry.Entry.{Entry}
 use Rattle.txn_types.specs.Lists.{or_else}
 use Rattle.txn_types.specs.History.{History, same_actor}
 use Rattle.txn_types.specs.Program as program
-use Rattle.txn_types.specs.Program.{Program, Done, Asks, Reads, Turn, turn, turn_with, with_reading, heard}
+use Rattle.txn_types.specs.Program.{Program, Done, Asks, Reads, turn, turn_with, with_reading, heard}
 use Rattle.txn_types.specs.Session.{Keeps}
 use Rattle.txn_types.specs.Reads.{before_start, is_start}
 use Rattle.txn_types.specs.Run.{Mover, mover_at, mover_after, kept_after, Allowed, Steps, Flight, Quiet, Asked, Answered, flight, flight_after, CanHear, IsUnderWay}

@@ -1,6 +1,6 @@
 -- What is to hold of movers in every run, as rules that a proof chooses: what the history keeps, what a request that is
 -- served has behind it, what a session rests on between two commands, and what a told command has behind it.
-use Rattle.std.proofs.Common.{◌≡◌, ℕ, Bool, ◌&&◌, List, ◌∷◌, Option, Some, None, inr}
+use Rattle.std.proofs.Common.{◌≡◌, ℕ, Bool, ◌&&◌, List, ◌∷◌, Option, Some, None, inr, true}
 use Rattle.txn_data.specs.declared.actor.Actor.{Actor}
 use Rattle.txn_data.specs.declared.tablet_limit.TabletLimit.{TabletLimit}
 use Rattle.txn_data.specs.declared.request.Request.{Request}
@@ -18,7 +18,7 @@ use Rattle.txn_data.specs.declared.entry.Entry.{Entry}
 use Rattle.txn_types.specs.Lists.{Member, or_else}
 use Rattle.txn_types.specs.History.{History}
 use Rattle.txn_types.specs.Session.{Keeps, keeps_after}
-use Rattle.txn_types.specs.Run.{Mover, Allowed, Steps, limits_after, may_lose_after, session_of}
+use Rattle.txn_types.specs.Run.{Mover, Allowed, Steps, limits_after, may_lose_after, session_of, limits_of}
 
 -- a mover's command under way, but for what is left of it
 pub record Stage : Type 0 where
@@ -30,6 +30,10 @@ pub record Stage : Type 0 where
 
 abbrev pub stage_of : Mover → Stage
 stage_of s = record { keeps = s.keeps; line = s.line; reading = s.reading; limits = s.limits; may_lose = s.may_lose }
+
+-- at its start
+abbrev pub started : Keeps → Command → Stage
+started s line = record { keeps = s; line = Some line; reading = None; limits = limits_of s.opened; may_lose = true }
 
 -- what it keeps once this is told
 abbrev pub kept_line : Config → Actor → Stage → Option Command → Told → Keeps

@@ -69,6 +69,13 @@ MoverIs R config m z c h p (Some line) (Answered by r) = Hears R config m z c h 
 abbrev pub MoverAt : (R : Rules) → Config → Actor → History → History → Mover → Flight → Type 0
 MoverAt R config m h z s f = MoverIs R config m z (stage_of s) h s.rest s.line f
 
+-- between two commands a mover rests
+pub rests_idle : (R : Rules) (config : Config) (m : Actor) (z : History) (c : Stage) (h : History) (p : Program Told) (line : Option Command) (f : Flight) → MoverIs R config m z c h p line f → line ≡ None → Rests R config m h c.keeps
+rests_idle R config m z c h p None Quiet is none = is
+rests_idle R config m z c h p None (Asked a q) is none = absurd is
+rests_idle R config m z c h p None (Answered by r) is none = absurd is
+rests_idle R config m z c h p (Some line) f is none = cc
+
 -- what a proof by rules has to show
 pub record Keeping (R : Rules) (config : Config) : Type 0 where
   pub first_base : R.Base []

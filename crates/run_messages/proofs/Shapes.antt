@@ -64,14 +64,14 @@ visit_always P of a s windowed k next goes = (
   ],
 )
 
-abbrev two_next : Asked → ℕ → List ℕ → Progress → Reply → Program ReadEnd
+abbrev pub two_next : Asked → ℕ → List ℕ → Progress → Reply → Program ReadEnd
 two_next a k ks seen answer = elim answer [
   | reply.Collected rows ↦ round_two a (with_rows k rows seen) ks
   | reply.Refused why ↦ read_refused (refusal_told (Tablet k) why) seen
   | _ ↦ read_refused told_refusal.Memory seen
 ]
 
-abbrev one_next : Asked → ℕ → List ℕ → Progress → Reply → Program ReadEnd
+abbrev pub one_next : Asked → ℕ → List ℕ → Progress → Reply → Program ReadEnd
 one_next a k ks seen answer = elim answer [
   | reply.Collected rows ↦ round_one a (with_rows k rows seen) ks
   | reply.Met at path ↦ met_then a.strict (what.Restart at path) seen (round_one a (restarted at seen) ks)

@@ -30,7 +30,7 @@ use Rattle.run_messages.proofs.Safe.{Safe, Ending}
 use Rattle.run_owners.specs.Owner.{Uses, IsUnused}
 use Rattle.run_owners.proofs.Runs.{ids_once}
 use Rattle.run_owners.proofs.Serials.{next_homed}
-use Rattle.run_sessions.specs.Laws.{IsWriteOf, IsBeginOf}
+use Rattle.run_opened.specs.Transaction.{IsWriteOf, IsBeginOf}
 use Rattle.run_sessions.proofs.Runs.{writes_begun}
 use Rattle.run_numbers.specs.Laws.{IsNumbered}
 use Rattle.run_numbers.proofs.Numbers.{all_accepted, all_none, downwards}

@@ -1,5 +1,5 @@
 -- Each command of a session, and each pass, keeps what sessions know of the numbers of their writes.
-use Rattle.std.proofs.Common.{◌≡◌, ℕ, ◌+◌, ◌^◌, ◌<◌, ◌≤◌, true, List, [], ◌∷◌, Option, Some, None, refl, sym, ◌∙◌, ap, subst, arith}
+use Rattle.std.proofs.Common.{◌≡◌, ℕ, ◌+◌, ◌^◌, ◌<◌, List, [], ◌∷◌, Option, Some, None, refl, sym, ◌∙◌, ap, subst}
 use Rattle.txn_data.specs.declared.actor.Actor.{Actor}
 use Rattle.txn_data.specs.declared.actor.Actor.TheVariants.{Tablet, Status, Session, Applier}
 use Rattle.txn_data.specs.declared.command.Command.{Command}
@@ -26,10 +26,11 @@ use Rattle.txn_types.specs.TxnProgram.{refused, txn_program}
 use Rattle.txn_types.specs.PassProgram.{pass_program}
 use Rattle.txn_types.specs.Session.{Keeps, Opened, Accepted, next_meta, begin_program, write_command, commit_command, abort_command, read_command, if_closed, restart_program, command_program, after_end, after_read, opened_after}
 use Rattle.txn_types.specs.Run.{Mover, MayStart, mover_at, limits_of, program_of, session_of}
-use Rattle.run_messages.proofs.Rules.{Stage, entry}
+use Rattle.run_messages.proofs.Rules.{entry, started}
 use Rattle.run_messages.proofs.Safe.{Safe, Keeping}
 use Rattle.run_messages.proofs.Shapes.{Always, pass_always, OfFinding, find_always}
 use Rattle.run_owners.proofs.Serials.{serial_low}
+use Rattle.run_owners.proofs.Commands.{few}
 use Rattle.run_resolved.proofs.Resolved.{CarriesNone}
 use Rattle.run_resolved.proofs.Commands.{read_none, commit_none, abort_none, restart_none, of_passes}
 use Rattle.run_numbers.proofs.Claims.{Holds, claim_of, rules, holds_step, NoWrite, Any, tells_any, Closes, plain_safe}
@@ -105,17 +106,14 @@ single_plain config i s place o priority None = find_always NoWrite of_finding (
 
 -- ## each command
 
-abbrev started_with : Keeps → Command → Stage
-started_with s line = record { keeps = s; line = Some line; reading = None; limits = limits_of s.opened; may_lose = true }
-
-left_safe : (config : Config) → IsCluster config → (m : Actor) (z : History) (s : Keeps) (line : Command) (p : Program Told) (h : History) → (Writes_ line → ⊥) → Always NoWrite p → Holds h m (claim_of s.opened) → Safe rules config m z (started_with s line) h p
-left_safe config cluster m z s line p h none plain holds = plain_safe config cluster m z p (started_with s line) h (claim_of s.opened) Any (left_closes config m s line none) plain (tells_any p) holds
+left_safe : (config : Config) → IsCluster config → (m : Actor) (z : History) (s : Keeps) (line : Command) (p : Program Told) (h : History) → (Writes_ line → ⊥) → Always NoWrite p → Holds h m (claim_of s.opened) → Safe rules config m z (started s line) h p
+left_safe config cluster m z s line p h none plain holds = plain_safe config cluster m z p (started s line) h (claim_of s.opened) Any (left_closes config m s line none) plain (tells_any p) holds
 
 begin_line : (config : Config) → IsCluster config → (i : ℕ) (s : Keeps) (priority : ℕ) (z h : History) (opened : Option Opened) → s.opened ≡ opened → s.serial + 1 < 2 ^ 64 → Holds h (Session i) (claim_of s.opened) →
-    Safe rules config (Session i) z (started_with s (command.Begin priority)) h (if_closed opened (begin_program config i s priority))
+    Safe rules config (Session i) z (started s (command.Begin priority)) h (if_closed opened (begin_program config i s priority))
 begin_line config cluster i s priority z h None is low holds = begin_safe config cluster i s priority (limits_of s.opened) z h is low
 begin_line config cluster i s priority z h (Some x) is low holds =
-    plain_safe config cluster (Session i) z (refused told_refusal.TxnOpen) (started_with s (command.Begin priority)) h (claim_of s.opened)
+    plain_safe config cluster (Session i) z (refused told_refusal.TxnOpen) (started s (command.Begin priority)) h (claim_of s.opened)
     Any (record { closes = λ g reading limits lose t said now. left_holds g (Session i) s.opened (opened_after config i s (command.Begin priority) reading limits t s.opened) (open_left reading limits t) now; memory = tt }) tt tt holds
   where
     open_left : (reading : Option ℕ) (limits : List TabletLimit) (t : Told) → IsLeft s.opened (opened_after config i s (command.Begin priority) reading limits t s.opened)
@@ -139,16 +137,16 @@ StaysNone config i s line = (reading : Option ℕ) (limits : List TabletLimit) (
 
 write_line : (config : Config) → IsCluster config → (i : ℕ) (s : Keeps) (place : Place) (o : Op) (line : Command) (z h : History) (opened : Option Opened) → s.opened ≡ opened →
     ((x : Opened) → s.opened ≡ Some x → WriteLine config i s x place o line) → StaysNone config i s line → Holds h (Session i) (claim_of s.opened) →
-    Safe rules config (Session i) z (started_with s line) h (write_command s place o opened)
+    Safe rules config (Session i) z (started s line) h (write_command s place o opened)
 write_line config cluster i s place o line z h None is about stays holds =
-    plain_safe config cluster (Session i) z (refused told_refusal.NoTxn) (started_with s line) h None Any (record {
+    plain_safe config cluster (Session i) z (refused told_refusal.NoTxn) (started s line) h None Any (record {
       closes = λ g reading limits lose t said now. subst (λ (u : Option Opened). Holds g (Session i) (claim_of u)) (stays reading limits t ∙ ap (λ (u : Option Opened). opened_after config i s line reading limits t u) (sym is)) tt;
       memory = tt;
     }) tt tt tt
 write_line config cluster i s place o line z h (Some x) is about stays holds =
     put_safe config cluster i s x place o line z (about x is) (limits_of s.opened) h (subst (λ (u : Option Opened). Holds h (Session i) (claim_of u)) is holds)
 
-command_safe : (config : Config) → IsCluster config → (i : ℕ) (s : Keeps) (line : Command) (z h : History) → s.serial + 1 < 2 ^ 64 → Holds h (Session i) (claim_of s.opened) → Safe rules config (Session i) z (started_with s line) h (command_program config i s line)
+command_safe : (config : Config) → IsCluster config → (i : ℕ) (s : Keeps) (line : Command) (z h : History) → s.serial + 1 < 2 ^ 64 → Holds h (Session i) (claim_of s.opened) → Safe rules config (Session i) z (started s line) h (command_program config i s line)
 command_safe config cluster i s (command.Begin priority) z h low holds = begin_line config cluster i s priority z h s.opened refl low holds
 command_safe config cluster i s (command.Put place v) z h low holds = write_line config cluster i s place (op.Put v) (command.Put place v) z h s.opened refl (put_line config i s place v) (λ reading limits t. refl) holds
 command_safe config cluster i s (command.Del place) z h low holds = write_line config cluster i s place op.Delete (command.Del place) z h s.opened refl (del_line config i s place) (λ reading limits t. refl) holds
@@ -165,15 +163,12 @@ command_safe config cluster i s (command.Restart actor) z h low holds = left_saf
 command_safe config cluster i s (command.Apply tablet) z h low holds = left_safe config cluster (Session i) z s (command.Apply tablet) (pass_program tablet) h (λ n. n) (always_plain (pass_program tablet) (pass_always CarriesNone of_passes tablet)) holds
 command_safe config cluster i s (command.Clock node micros) z h low holds = left_safe config cluster (Session i) z s (command.Clock node micros) (Done told.Set) h (λ n. n) tt holds
 
-few : (n k : ℕ) → n ≤ k → k < 2 ^ 40 → n + 1 < 2 ^ 64
-few n k le lt = omega (arith, le, lt)
-
 starts : (config : Config) → IsCluster config → (h : History) (m : Actor) (s : Mover) (number : ℕ) (line : Command) → mover_at config m h ≡ s → MayStart config m s line →
-    Holds (entry m None (Start number line) ∷ h) m (claim_of s.keeps.opened) → Safe rules config m h (started_with s.keeps line) (entry m None (Start number line) ∷ h) (program_of config m s.keeps line)
+    Holds (entry m None (Start number line) ∷ h) m (claim_of s.keeps.opened) → Safe rules config m h (started s.keeps line) (entry m None (Start number line) ∷ h) (program_of config m s.keeps line)
 starts config cluster h (Session i) s number line is may holds =
     command_safe config cluster i s.keeps line h (entry (Session i) None (Start number line) ∷ h) (few s.keeps.serial s.commands (serial_low config (Session i) h s is) may.1) holds
 starts config cluster h (Applier k) s number line is may holds =
-    subst (λ (l : Command). Safe rules config (Applier k) h (started_with s.keeps l) (entry (Applier k) None (Start number line) ∷ h) (program_of config (Applier k) s.keeps l)) (sym may.1)
+    subst (λ (l : Command). Safe rules config (Applier k) h (started s.keeps l) (entry (Applier k) None (Start number line) ∷ h) (program_of config (Applier k) s.keeps l)) (sym may.1)
     (left_safe config cluster (Applier k) h s.keeps (command.Apply k) (pass_program k) (entry (Applier k) None (Start number line) ∷ h) (λ n. n) (always_plain (pass_program k) (pass_always CarriesNone of_passes k)) holds)
 starts config cluster h (Tablet k) s number line is may holds = absurd may
 starts config cluster h (Status j) s number line is may holds = absurd may

@@ -80,7 +80,7 @@ down_more ws w =
 
 -- ## sorted by number, they are in their order again
 
-abbrev by_number : Numbered → Numbered → Bool
+abbrev pub by_number : Numbered → Numbered → Bool
 by_number a b = nat_le a.number b.number
 
 abbrev to_write : Numbered → Written

@@ -17,7 +17,7 @@ use Rattle.txn_types.specs.History.{History}
 use Rattle.txn_types.specs.Clock.{Answer, Kind, Own, Floor, refused, told_only, logged, timed, timed_answer, holds, clock_time, lease_end, last_time, has_given, down_since}
 use Rattle.txn_types.specs.Tablet.{tablet_standing, write_answer, provisional, versions, conflict, greatest_above, related_commits, has_any, greatest_fate}
 use Rattle.txn_types.specs.Run.{Serves}
-use Rattle.run_sessions.specs.Laws.{IsLogged}
+use Rattle.run_opened.specs.Transaction.{IsLogged}
 
 -- ## a write that is accepted
 

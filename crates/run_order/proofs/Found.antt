@@ -1,34 +1,15 @@
 -- What a write meets of others: no open one, and no commit above the time that it read at.
-use Rattle.std.proofs.Common.{◌≡◌, ℕ, ◌≤◌, Bool, true, false, List, [], ◌∷◌, Option, Some, None, max, filter, filter_map, nat_eq, nat_lt, refl, sym, ◌∙◌, subst, inl, inr, ◌⊎◌, if◌then◌else◌, arith}
+use Rattle.std.proofs.Common.{◌≡◌, ℕ, ◌≤◌, Bool, true, false, List, [], ◌∷◌, Option, Some, None, max, filter, filter_map, nat_eq, nat_lt, refl, sym, subst, inl, inr, if◌then◌else◌, arith}
 use Rattle.std.proofs.lemmas.Bool.{ltb-false}
 use Rattle.std.specs.List.{cons_option}
 use Rattle.txn_data.specs.declared.fate.Fate.{Fate}
 use Rattle.txn_data.specs.declared.fate.Fate.TheVariants as fate
 use Rattle.txn_data.specs.declared.fate_of.FateOf.{FateOf}
-use Rattle.txn_types.specs.Lists.{Member, with_number, rising, or_zero}
+use Rattle.txn_types.specs.Lists.{Member, rising, or_zero}
 use Rattle.txn_types.specs.Tablet.{first_fate, is_open, first_of, greatest_above, greatest_fate}
-use Rattle.run_machines.proofs.Basics.{eq_true, test_cases, member_filter}
+use Rattle.run_machines.proofs.Basics.{eq_true, test_cases, member_filter, member_rising}
 
 -- ## no conflict
-
-number_choice : (b d : Bool) (x n m : ℕ) (ms : List ℕ) → nat_eq n m ≡ d → (x ≡ n) ⊎ Member x (m ∷ ms) → ((x ≡ n) ⊎ Member x ms → Member x (with_number n ms)) →
-    Member x (if b then n ∷ m ∷ ms else (if d then m ∷ ms else m ∷ with_number n ms))
-number_choice true d x n m ms same is more = is
-number_choice false true x n m ms same is more = elim is [ inl new ↦ inl (new ∙ eq_true n m same) | inr old ↦ old ]
-number_choice false false x n m ms same is more = elim is [
-  | inl new ↦ inr (more (inl new))
-  | inr old ↦ elim old [ inl here ↦ inl here | inr later ↦ inr (more (inr later)) ]
-]
-
-member_number : (x n : ℕ) (ms : List ℕ) → (x ≡ n) ⊎ Member x ms → Member x (with_number n ms)
-unfolding with_number
-member_number x n [] is = elim is [ inl new ↦ inl new | inr none ↦ absurd none ]
-member_number x n (m ∷ ms) is = number_choice (nat_lt n m) (nat_eq n m) x n m ms refl is (member_number x n ms)
-
-pub member_rising : (x : ℕ) (ns : List ℕ) → Member x ns → Member x (rising ns)
-unfolding rising
-member_rising x [] m = m
-member_rising x (n ∷ ns) m = member_number x n (rising ns) (elim m [ inl here ↦ inl here | inr later ↦ inr (member_rising x ns later) ])
 
 first_none : (x : ℕ) (ns : List ℕ) → first_of ns ≡ None → Member x ns → ⊥
 first_none x [] none m = absurd m

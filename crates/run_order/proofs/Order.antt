@@ -24,7 +24,7 @@ use Rattle.txn_types.specs.Run.{Run}
 use Rattle.run_machines.specs.Own.{StandsOver, ServesNext, piece, time_of}
 use Rattle.run_machines.proofs.Basics.{eq_cases, same_true, member_left, member_right, member_map, member_filter, filter_member}
 use Rattle.run_machines.proofs.Counted.{counted, counting_own, own_all}
-use Rattle.run_machines.proofs.Owns.{serves_at, stands_member, stands_own, stands_trans, member_stands, member_own, own_member, member_counted, counted_counting}
+use Rattle.run_machines.proofs.Owns.{serves_at, stands_member, stands_own, stands_trans, member_stands, member_own, own_member, member_counted, counted_counting, run_until}
 use Rattle.run_machines.proofs.Since.{own_stands}
 use Rattle.run_clocks.specs.Laws.{floor_at, IsPast}
 use Rattle.run_clocks.proofs.Rise.{timed_whole}
@@ -34,11 +34,10 @@ use Rattle.run_owners.proofs.Founds.{standing_part}
 use Rattle.run_owners.proofs.Runs.{ids_once, requests_homed}
 use Rattle.run_fates.specs.Laws.{Tells, CommittedAt}
 use Rattle.run_fates.proofs.Runs.{commits_once, told_committed, told_aborted}
-use Rattle.run_sessions.specs.Laws.{IsLogged, Begun}
-use Rattle.run_sessions.proofs.Tables.{Written, Accepted, Faulty, Turned, written}
+use Rattle.run_opened.proofs.Tables.{Written, Accepted, Faulty, Turned, written}
+use Rattle.run_opened.specs.Transaction.{IsLogged, Begun}
 use Rattle.run_sessions.proofs.Runs.{commits_above}
 use Rattle.run_heard.specs.Laws.{Carries}
-use Rattle.run_heard.proofs.Runs.{run_until}
 use Rattle.run_forgotten.proofs.Forgotten.{told_absent}
 use Rattle.run_kept.proofs.Versions.{HasVersion}
 use Rattle.run_kept.proofs.Kept.{kept_before, forgotten_later, forgotten_none}
@@ -266,3 +265,9 @@ in_commit_order config h before e f x y c d p q run stands member same one two o
     let none = took_time config h before f k y d q f.event run stands tablet.1 refl two in
     let left = left_event config h before f e k x c p e.event run stands tablet.1 (same ∙ tablet.1) none member refl one in
     after_event config h before f k x y c d p q f.event run stands tablet.1 refl two left other rel
+
+-- an entry writes for one transaction
+pub write_txn : (h : History) (x y c d : ℕ) (p q : Parts) (e : Entry) (event : Event) → IsCommittedWrite h x c p e event → IsCommittedWrite h y d q e event → x ≡ y
+write_txn h x y c d p q e (Serve from (request.Write meta number r op read seen fates) (reply.Written w) time append) one two = sym one.0 ∙ two.0
+write_txn h x y c d p q e (Serve from (request.Single z r op seen fates) answer (Some t) append) one two = sym one.0 ∙ two.0
+write_txn h x y c d p q e event one two = absurd one

@@ -31,7 +31,7 @@ use Rattle.txn_types.specs.ReadProgram.{read_program}
 use Rattle.txn_types.specs.PassProgram.{pass_program}
 use Rattle.txn_types.specs.Session.{Keeps, Opened, txn_id, next_meta, clock_range, timed_then, moved_then, begin_program, read_told, read_at, read_inside, read_command, has_writes, writes_of, tablets_used, write_command, commit_command, abort_command, if_closed, restart_program, command_program, uses_serial, serial_after, opened_after}
 use Rattle.txn_types.specs.Run.{Mover, mover_at, Steps, MayStart, limits_of, program_of}
-use Rattle.run_messages.proofs.Rules.{Stage, told_memory, entry}
+use Rattle.run_messages.proofs.Rules.{told_memory, entry, started}
 use Rattle.run_messages.proofs.Safe.{Safe, Keeping}
 use Rattle.run_owners.proofs.Founds.{AllHomed}
 use Rattle.run_owners.proofs.Homed.{NotOpen, then_homed}
@@ -111,9 +111,6 @@ restart_homed config m a = (
 )
 
 -- ## what a command leaves
-
-abbrev started : Keeps → Command → Stage
-started s line = record { keeps = s; line = Some line; reading = None; limits = limits_of s.opened; may_lose = true }
 
 closes_session : (config : Config) (i : ℕ) (s : Keeps) (line : Command) → s.serial + 1 < 2 ^ 64 → OpenedHomed config (Session i) s.opened →
     Closes config (Session i) s (Some line) (next_serial (uses_serial line) s.serial)
@@ -207,7 +204,7 @@ applier_closes config k s tablet homed = λ reading limits lose t ok. (serial_is
     still None homed reading limits t = tt
     still (Some x) homed reading limits t = homed
 
-few : (n k : ℕ) → n ≤ k → k < 2 ^ 40 → n + 1 < 2 ^ 64
+pub few : (n k : ℕ) → n ≤ k → k < 2 ^ 40 → n + 1 < 2 ^ 64
 few n k le lt = omega (arith, le, lt)
 
 starts : (config : Config) (h : History) (m : Actor) (s : Mover) (number : ℕ) (line : Command) → Steps config h → AllHomed config h → mover_at config m h ≡ s → MayStart config m s line →

@@ -27,6 +27,7 @@ use Rattle.txn_types.specs.Program.{Program, refusal_told}
 use Rattle.txn_types.specs.TxnProgram.{refused, abort_after, write_refused, resolve_all, find_others, txn_program}
 use Rattle.txn_types.specs.ReadProgram.{Asked, Progress, tablets_of, read_refused, ask_fates, visit, with_rows, read_done, round_two, restarted, met_then, round_one, read_program}
 use Rattle.txn_types.specs.PassProgram.{Counts, apply_then, clean_then, pass_over, pass_program}
+use Rattle.run_messages.proofs.Shapes.{one_next, two_next}
 use Rattle.run_owners.specs.Owner.{home_of, IsOwner, IsHome}
 use Rattle.run_owners.proofs.Founds.{FoundsHomed}
 use Rattle.run_owners.proofs.Homed.{NotOpen, Homed}
@@ -202,22 +203,6 @@ visit_homed config m a s windowed k next goes = (
 
 done_well : (config : Config) (m : Actor) (a : Asked) (s : Progress) → Read_ config m (read_done a s)
 done_well config m a s = λ why is. cc
-
--- what follows a visit of each round
-abbrev two_next : Asked → ℕ → List ℕ → Progress → Reply → Program ReadEnd
-two_next a k ks seen answer = elim answer [
-  | reply.Collected rows ↦ round_two a (with_rows k rows seen) ks
-  | reply.Refused why ↦ read_refused (refusal_told (Tablet k) why) seen
-  | _ ↦ read_refused told_refusal.Memory seen
-]
-
-abbrev one_next : Asked → ℕ → List ℕ → Progress → Reply → Program ReadEnd
-one_next a k ks seen answer = elim answer [
-  | reply.Collected rows ↦ round_one a (with_rows k rows seen) ks
-  | reply.Met at path ↦ met_then a.strict (what.Restart at path) seen (round_one a (restarted at seen) ks)
-  | reply.Refused why ↦ read_refused (refusal_told (Tablet k) why) seen
-  | _ ↦ read_refused told_refusal.Memory seen
-]
 
 two_homed : (config : Config) (m : Actor) (a : Asked) (s : Progress) (ks : List ℕ) → Read_ config m (round_two a s ks)
 unfolding round_two

@@ -29,6 +29,15 @@ used_new config before a event x good uses = absurd uses
 pub ids_once : IdsAreUsedOnce
 ids_once config h before e x run stands uses = used_new config before e.actor e.event x (good_of (rules config) config (keeping config) h before e run.1 stands) uses
 
+-- a single write with this id
+abbrev pub IsSingleOf : ℕ → Event → Type 0
+IsSingleOf x (Serve from (request.Single y path op seen fates) r time append) = y ≡ x
+IsSingleOf x event = ⊥
+
+pub single_uses : (x : ℕ) (event : Event) → IsSingleOf x event → Uses x event
+single_uses x (Serve from (request.Single y path op seen fates) r time append) is = is
+single_uses x event is = absurd is
+
 pub pending_kept : PendingIsKept
 pending_kept config h before j k m n x t floor c tablets r time append after run stands mj is_j is_k =
     let in_h : Member j h = member_before j k before h mj stands in

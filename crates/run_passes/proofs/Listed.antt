@@ -18,7 +18,7 @@ use Rattle.run_machines.proofs.Basics.{member_cases, map_member, filter_member}
 use Rattle.run_machines.proofs.Owns.{own_member, member_stands}
 use Rattle.run_clocks.proofs.Runs.{member_before}
 use Rattle.run_owners.proofs.Founds.{rising_member, standing_part}
-use Rattle.run_sessions.specs.Laws.{Begun, IsWriteOf}
+use Rattle.run_opened.specs.Transaction.{Begun, IsWriteOf}
 use Rattle.run_sessions.proofs.Runs.{writes_begun}
 
 pub founds_member : (f : Found) (ps some : List Intent) → Member f (founds ps some) → (p : Intent) × Member p some × (p.meta.txn ≡ f.txn)

@@ -24,7 +24,7 @@ use Rattle.run_messages.proofs.Shapes.{Always}
 use Rattle.txn_types.specs.History.{own}
 use Rattle.txn_types.specs.Plan.{IsCluster}
 use Rattle.txn_types.specs.Run.{Steps, Serves}
-use Rattle.run_sessions.proofs.Open.{begun_more}
+use Rattle.run_opened.proofs.Open.{begun_more}
 use Rattle.run_passes.specs.Laws.{ToldEnded}
 use Rattle.run_passes.proofs.Listed.{AllBegun, intents_begun}
 

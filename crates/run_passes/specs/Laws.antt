@@ -7,7 +7,7 @@ use Rattle.txn_types.specs.History.{History}
 use Rattle.txn_types.specs.Run.{Run}
 use Rattle.run_machines.specs.Own.{StandsOver}
 use Rattle.run_fates.specs.Laws.{Tells}
-use Rattle.run_sessions.specs.Laws.{Begun}
+use Rattle.run_opened.specs.Transaction.{Begun}
 use Rattle.run_heard.specs.Laws.{CleansOf}
 
 -- an entry told that the transaction was aborted or that there is no record of it, when it had been begun

@@ -30,9 +30,9 @@ use Rattle.txn_types.specs.Program.{Program, Done, Asks, Reads, refusal_told}
 use Rattle.txn_types.specs.TxnProgram.{refused, write_refused, resolve_all, find_others, txn_program}
 use Rattle.txn_types.specs.PassProgram.{pass_program}
 use Rattle.txn_types.specs.Session.{Keeps, Opened, next_meta, begin_program, write_command, commit_command, abort_command, read_command, if_closed, restart_program, command_program}
-use Rattle.txn_types.specs.Run.{Mover, MayStart, limits_of, program_of}
+use Rattle.txn_types.specs.Run.{Mover, MayStart, program_of}
 use Rattle.run_machines.proofs.Basics.{member_right}
-use Rattle.run_messages.proofs.Rules.{Rules, Stage, hears, with_own, no_memory, entry, Later, lasts}
+use Rattle.run_messages.proofs.Rules.{Rules, Stage, hears, with_own, no_memory, entry, Later, lasts, started as started_with}
 use Rattle.run_messages.proofs.Safe.{Safe, Keeping}
 use Rattle.run_messages.proofs.Shapes.{Always, pass_always}
 use Rattle.run_resolved.proofs.Resolved.{CarriesNone}
@@ -169,9 +169,6 @@ single_at config i s place o priority None = find_at place (next_meta config i s
     (λ fates. ((refl, refl), elim [ reply.SingleDone at ↦ tt | reply.Refused why ↦ tt | _ ↦ tt ]))
 
 -- ## each command
-
-abbrev started_with : Keeps → Command → Stage
-started_with s line = record { keeps = s; line = Some line; reading = None; limits = limits_of s.opened; may_lose = true }
 
 session_safe : (config : Config) (h : History) (i : ℕ) (s : Mover) (number : ℕ) (line : Command) → MayStart config (Session i) s line →
     Safe rules config (Session i) h (started_with s.keeps line) (entry (Session i) None (Start number line) ∷ h) (command_program config i s.keeps line)

@@ -1,7 +1,6 @@
 -- What a program asks and what it ends with, whatever fitting replies it hears; and that a read ends not below its time.
 use Rattle.std.proofs.Common.{ℕ, ◌<◌, ◌≤◌, Bool, true, false, List, [], ◌∷◌, Option, nat_eq, if◌then◌else◌, arith}
 use Rattle.doc_path.specs.Path.{Parts}
-use Rattle.txn_data.specs.declared.actor.Actor.TheVariants.{Tablet}
 use Rattle.txn_data.specs.declared.fate_of.FateOf.{FateOf}
 use Rattle.txn_data.specs.declared.found.Found.{Found}
 use Rattle.txn_data.specs.declared.place.Place.{Place}
@@ -15,9 +14,9 @@ use Rattle.txn_data.specs.declared.request.Request.{Request}
 use Rattle.txn_data.specs.declared.request.Request.TheVariants as request
 use Rattle.txn_data.specs.declared.reply.Reply.{Reply}
 use Rattle.txn_data.specs.declared.reply.Reply.TheVariants as reply
-use Rattle.txn_data.specs.declared.told_refusal.ToldRefusal.TheVariants as told_refusal
-use Rattle.txn_types.specs.Program.{Program, Done, Asks, Reads, then_do, refusal_told}
-use Rattle.txn_types.specs.ReadProgram.{Asked, Progress, tablets_of, paths_on, window_of, fixed, read_refused, ask_fates, visit, with_rows, read_done, round_two, restarted, met_then, round_one, read_program}
+use Rattle.txn_types.specs.Program.{Program, Done, Asks, Reads, then_do}
+use Rattle.txn_types.specs.ReadProgram.{Asked, Progress, tablets_of, paths_on, window_of, fixed, ask_fates, visit, with_rows, read_done, round_two, restarted, met_then, round_one, read_program}
+use Rattle.run_messages.proofs.Shapes.{one_next, two_next}
 use Rattle.run_read_times.proofs.Above.{Fits}
 
 abbrev pub Holds : {A : Type 0} → (Request → Type 0) → (A → Type 0) → Program A → Type 0
@@ -73,21 +72,6 @@ visit_holds low a s windowed k next le goes = (
     | _ ↦ λ fits. le
   ],
 )
-
-abbrev two_next : Asked → ℕ → List ℕ → Progress → Reply → Program ReadEnd
-two_next a k ks seen answer = elim answer [
-  | reply.Collected rows ↦ round_two a (with_rows k rows seen) ks
-  | reply.Refused why ↦ read_refused (refusal_told (Tablet k) why) seen
-  | _ ↦ read_refused told_refusal.Memory seen
-]
-
-abbrev one_next : Asked → ℕ → List ℕ → Progress → Reply → Program ReadEnd
-one_next a k ks seen answer = elim answer [
-  | reply.Collected rows ↦ round_one a (with_rows k rows seen) ks
-  | reply.Met at path ↦ met_then a.strict (what.Restart at path) seen (round_one a (restarted at seen) ks)
-  | reply.Refused why ↦ read_refused (refusal_told (Tablet k) why) seen
-  | _ ↦ read_refused told_refusal.Memory seen
-]
 
 two_holds : (low : ℕ) (a : Asked) (s : Progress) (ks : List ℕ) → low ≤ s.t → Holds NoWrite (EndsFrom low) (round_two a s ks)
 unfolding round_two

@@ -1,5 +1,5 @@
 -- What a session is told of its transaction's read time, and at what time its writes read.
-use Rattle.std.proofs.Common.{◌≡◌, ℕ, ◌+◌, ◌^◌, ◌<◌, ◌≤◌, max, Bool, true, false, ◌||◌, List, [], ◌∷◌, Option, Some, None, Result, Ok, Err, length, refl, sym, ◌∙◌, ap, subst, inl, inr, if◌then◌else◌, arith}
+use Rattle.std.proofs.Common.{◌≡◌, ℕ, ◌+◌, ◌^◌, ◌<◌, ◌≤◌, max, Bool, true, false, ◌||◌, List, [], ◌∷◌, Option, Some, None, Result, Ok, Err, length, refl, sym, ◌∙◌, ap, subst, inl, inr, if◌then◌else◌}
 use Rattle.hybrid_time.specs.Time.{least_time, limit_time}
 use Rattle.hybrid_time.specs.declared.time_refusal.TimeRefusal.{TimeRefusal}
 use Rattle.txn_data.specs.declared.actor.Actor.{Actor}
@@ -36,10 +36,11 @@ use Rattle.txn_types.specs.TxnProgram.{refused, write_refused, resolve_all, txn_
 use Rattle.txn_types.specs.ReadProgram.{read_program}
 use Rattle.txn_types.specs.PassProgram.{Counts, apply_then, clean_then, pass_over, pass_program}
 use Rattle.txn_types.specs.Session.{Keeps, Opened, next_meta, timed_then, begin_program, read_at, read_inside, read_told, writes_of, has_writes, read_command, write_command, commit_command, abort_command, if_closed, restart_program, command_program}
-use Rattle.txn_types.specs.Run.{Mover, MayStart, limits_of, program_of, mover_at}
-use Rattle.run_messages.proofs.Rules.{Rules, Stage, hears, with_own, no_memory, entry, lasts}
+use Rattle.txn_types.specs.Run.{Mover, MayStart, program_of, mover_at}
+use Rattle.run_messages.proofs.Rules.{Rules, Stage, hears, with_own, no_memory, entry, lasts, started}
 use Rattle.run_messages.proofs.Safe.{Safe, Keeping}
 use Rattle.run_owners.proofs.Serials.{serial_low}
+use Rattle.run_owners.proofs.Commands.{few}
 use Rattle.run_read_times.specs.Laws.{IsReadLine, IsUp, IsTold, WasOpen}
 use Rattle.run_read_times.proofs.Above.{fits_served, fits_restarted, fits_memory}
 use Rattle.run_read_times.proofs.Holds.{Holds, then_holds, NoWrite, read_holds}
@@ -226,50 +227,44 @@ single_line config i s line place o priority None = single_holds (Session i) s.s
 
 -- ## each command
 
-abbrev started_with : Keeps → Command → Stage
-started_with s line = record { keeps = s; line = Some line; reading = None; limits = limits_of s.opened; may_lose = true }
-
 abbrev start_of : Actor → ℕ → Command → Entry
 start_of m number line = entry m None (Start number line)
 
 write_safe : (config : Config) (h : History) (i : ℕ) (s : Mover) (number : ℕ) (line : Command) (place : Place) (o : Op) (opened : Option Opened) → mover_at config (Session i) h ≡ s → s.keeps.opened ≡ opened →
-    Safe (rules config) config (Session i) h (started_with s.keeps line) (start_of (Session i) number line ∷ h) (write_command s.keeps place o opened)
-write_safe config h i s number line place o None is open_is = none_safe config (Session i) h (refused told_refusal.NoTxn) (started_with s.keeps line) (start_of (Session i) number line ∷ h) tt
+    Safe (rules config) config (Session i) h (started s.keeps line) (start_of (Session i) number line ∷ h) (write_command s.keeps place o opened)
+write_safe config h i s number line place o None is open_is = none_safe config (Session i) h (refused told_refusal.NoTxn) (started s.keeps line) (start_of (Session i) number line ∷ h) tt
 write_safe config h i s number line place o (Some x) is open_is = doubt_safe x.in_doubt
   where
-    doubt_safe : (b : Bool) → Safe (rules config) config (Session i) h (started_with s.keeps line) (start_of (Session i) number line ∷ h)
+    doubt_safe : (b : Bool) → Safe (rules config) config (Session i) h (started s.keeps line) (start_of (Session i) number line ∷ h)
         (if b then refused told_refusal.InDoubt else txn_program (step.Write x.meta (length x.writes) place o x.r s.keeps.last))
-    doubt_safe true = none_safe config (Session i) h (refused told_refusal.InDoubt) (started_with s.keeps line) (start_of (Session i) number line ∷ h) tt
+    doubt_safe true = none_safe config (Session i) h (refused told_refusal.InDoubt) (started s.keeps line) (start_of (Session i) number line ∷ h) tt
     doubt_safe false = holds_safe config (Session i) h (λ g. WasOpen config g (Session i) x.meta.txn x.r) (WritesAs x.meta.txn x.r) (λ e g was. (was.0, was.1, inr was.2, was.3)) (λ g asked was same. as_good config g (Session i) x.meta.txn x.r asked was same)
-        (txn_program (step.Write x.meta (length x.writes) place o x.r s.keeps.last)) (started_with s.keeps line) (start_of (Session i) number line ∷ h)
+        (txn_program (step.Write x.meta (length x.writes) place o x.r s.keeps.last)) (started s.keeps line) (start_of (Session i) number line ∷ h)
         (write_holds (Session i) s.keeps.serial s.keeps.opened (Some line) x.meta (length x.writes) place o x.r s.keeps.last)
         (start_of (Session i) number line, h, inl (refl, refl), (x, ap (λ (v : Mover). v.keeps.opened) is ∙ open_is, refl, refl))
 
 session_safe : (config : Config) (h : History) (i : ℕ) (s : Mover) (number : ℕ) (line : Command) → mover_at config (Session i) h ≡ s → s.keeps.serial + 1 < 2 ^ 64 →
-    Safe (rules config) config (Session i) h (started_with s.keeps line) (start_of (Session i) number line ∷ h) (command_program config i s.keeps line)
+    Safe (rules config) config (Session i) h (started s.keeps line) (start_of (Session i) number line ∷ h) (command_program config i s.keeps line)
 session_safe config h i s number (command.Put place v) is low = write_safe config h i s number (command.Put place v) place (op.Put v) s.keeps.opened is refl
 session_safe config h i s number (command.Del place) is low = write_safe config h i s number (command.Del place) place op.Delete s.keeps.opened is refl
-session_safe config h i s number (command.Begin priority) is low = none_safe config (Session i) h (command_program config i s.keeps (command.Begin priority)) (started_with s.keeps (command.Begin priority)) (start_of (Session i) number (command.Begin priority) ∷ h) (begin_line config i s.keeps priority s.keeps.opened low)
-session_safe config h i s number command.Commit is low = none_safe config (Session i) h (command_program config i s.keeps command.Commit) (started_with s.keeps command.Commit) (start_of (Session i) number command.Commit ∷ h) (commit_line i s.keeps (Some command.Commit) s.keeps.opened)
-session_safe config h i s number command.Abort is low = none_safe config (Session i) h (command_program config i s.keeps command.Abort) (started_with s.keeps command.Abort) (start_of (Session i) number command.Abort ∷ h) (abort_line (Session i) s.keeps.serial (Some command.Abort) s.keeps.opened)
-session_safe config h i s number command.End is low = none_safe config (Session i) h (command_program config i s.keeps command.End) (started_with s.keeps command.End) (start_of (Session i) number command.End ∷ h) (abort_line (Session i) s.keeps.serial (Some command.End) s.keeps.opened)
-session_safe config h i s number (command.Read strict places) is low = none_safe config (Session i) h (command_program config i s.keeps (command.Read strict places)) (started_with s.keeps (command.Read strict places)) (start_of (Session i) number (command.Read strict places) ∷ h) (read_line config i s.keeps Get strict places (Some (command.Read strict places)) s.keeps.opened tt)
-session_safe config h i s number (command.Scan strict place) is low = none_safe config (Session i) h (command_program config i s.keeps (command.Scan strict place)) (started_with s.keeps (command.Scan strict place)) (start_of (Session i) number (command.Scan strict place) ∷ h) (read_line config i s.keeps Scan strict (place ∷ []) (Some (command.Scan strict place)) s.keeps.opened tt)
-session_safe config h i s number (command.SinglePut place v priority) is low = none_safe config (Session i) h (command_program config i s.keeps (command.SinglePut place v priority)) (started_with s.keeps (command.SinglePut place v priority)) (start_of (Session i) number (command.SinglePut place v priority) ∷ h) (single_line config i s.keeps (Some (command.SinglePut place v priority)) place (op.Put v) priority s.keeps.opened)
-session_safe config h i s number (command.SingleDel place priority) is low = none_safe config (Session i) h (command_program config i s.keeps (command.SingleDel place priority)) (started_with s.keeps (command.SingleDel place priority)) (start_of (Session i) number (command.SingleDel place priority) ∷ h) (single_line config i s.keeps (Some (command.SingleDel place priority)) place op.Delete priority s.keeps.opened)
-session_safe config h i s number (command.Restart actor) is low = none_safe config (Session i) h (restart_program actor) (started_with s.keeps (command.Restart actor)) (start_of (Session i) number (command.Restart actor) ∷ h) (restart_line (Session i) s.keeps.serial s.keeps.opened (Some (command.Restart actor)) actor)
-session_safe config h i s number (command.Apply tablet) is low = none_safe config (Session i) h (pass_program tablet) (started_with s.keeps (command.Apply tablet)) (start_of (Session i) number (command.Apply tablet) ∷ h) (pass_holds (Session i) s.keeps.serial s.keeps.opened (Some (command.Apply tablet)) tablet)
-session_safe config h i s number (command.Clock node micros) is low = none_safe config (Session i) h (Done told.Set) (started_with s.keeps (command.Clock node micros)) (start_of (Session i) number (command.Clock node micros) ∷ h) tt
-
-few : (n k : ℕ) → n ≤ k → k < 2 ^ 40 → n + 1 < 2 ^ 64
-few n k le lt = omega (arith, le, lt)
+session_safe config h i s number (command.Begin priority) is low = none_safe config (Session i) h (command_program config i s.keeps (command.Begin priority)) (started s.keeps (command.Begin priority)) (start_of (Session i) number (command.Begin priority) ∷ h) (begin_line config i s.keeps priority s.keeps.opened low)
+session_safe config h i s number command.Commit is low = none_safe config (Session i) h (command_program config i s.keeps command.Commit) (started s.keeps command.Commit) (start_of (Session i) number command.Commit ∷ h) (commit_line i s.keeps (Some command.Commit) s.keeps.opened)
+session_safe config h i s number command.Abort is low = none_safe config (Session i) h (command_program config i s.keeps command.Abort) (started s.keeps command.Abort) (start_of (Session i) number command.Abort ∷ h) (abort_line (Session i) s.keeps.serial (Some command.Abort) s.keeps.opened)
+session_safe config h i s number command.End is low = none_safe config (Session i) h (command_program config i s.keeps command.End) (started s.keeps command.End) (start_of (Session i) number command.End ∷ h) (abort_line (Session i) s.keeps.serial (Some command.End) s.keeps.opened)
+session_safe config h i s number (command.Read strict places) is low = none_safe config (Session i) h (command_program config i s.keeps (command.Read strict places)) (started s.keeps (command.Read strict places)) (start_of (Session i) number (command.Read strict places) ∷ h) (read_line config i s.keeps Get strict places (Some (command.Read strict places)) s.keeps.opened tt)
+session_safe config h i s number (command.Scan strict place) is low = none_safe config (Session i) h (command_program config i s.keeps (command.Scan strict place)) (started s.keeps (command.Scan strict place)) (start_of (Session i) number (command.Scan strict place) ∷ h) (read_line config i s.keeps Scan strict (place ∷ []) (Some (command.Scan strict place)) s.keeps.opened tt)
+session_safe config h i s number (command.SinglePut place v priority) is low = none_safe config (Session i) h (command_program config i s.keeps (command.SinglePut place v priority)) (started s.keeps (command.SinglePut place v priority)) (start_of (Session i) number (command.SinglePut place v priority) ∷ h) (single_line config i s.keeps (Some (command.SinglePut place v priority)) place (op.Put v) priority s.keeps.opened)
+session_safe config h i s number (command.SingleDel place priority) is low = none_safe config (Session i) h (command_program config i s.keeps (command.SingleDel place priority)) (started s.keeps (command.SingleDel place priority)) (start_of (Session i) number (command.SingleDel place priority) ∷ h) (single_line config i s.keeps (Some (command.SingleDel place priority)) place op.Delete priority s.keeps.opened)
+session_safe config h i s number (command.Restart actor) is low = none_safe config (Session i) h (restart_program actor) (started s.keeps (command.Restart actor)) (start_of (Session i) number (command.Restart actor) ∷ h) (restart_line (Session i) s.keeps.serial s.keeps.opened (Some (command.Restart actor)) actor)
+session_safe config h i s number (command.Apply tablet) is low = none_safe config (Session i) h (pass_program tablet) (started s.keeps (command.Apply tablet)) (start_of (Session i) number (command.Apply tablet) ∷ h) (pass_holds (Session i) s.keeps.serial s.keeps.opened (Some (command.Apply tablet)) tablet)
+session_safe config h i s number (command.Clock node micros) is low = none_safe config (Session i) h (Done told.Set) (started s.keeps (command.Clock node micros)) (start_of (Session i) number (command.Clock node micros) ∷ h) tt
 
 starts : (config : Config) (h : History) (m : Actor) (s : Mover) (number : ℕ) (line : Command) → mover_at config m h ≡ s → MayStart config m s line →
-    Safe (rules config) config m h (started_with s.keeps line) (start_of m number line ∷ h) (program_of config m s.keeps line)
+    Safe (rules config) config m h (started s.keeps line) (start_of m number line ∷ h) (program_of config m s.keeps line)
 starts config h (Session i) s number line is may = session_safe config h i s number line is (few s.keeps.serial s.commands (serial_low config (Session i) h s is) may.1)
 starts config h (Applier k) s number line is may =
-    subst (λ (l : Command). Safe (rules config) config (Applier k) h (started_with s.keeps l) (start_of (Applier k) number line ∷ h) (program_of config (Applier k) s.keeps l)) (sym may.1)
-    (none_safe config (Applier k) h (pass_program k) (started_with s.keeps (command.Apply k)) (start_of (Applier k) number line ∷ h) (pass_holds (Applier k) s.keeps.serial s.keeps.opened (Some (command.Apply k)) k))
+    subst (λ (l : Command). Safe (rules config) config (Applier k) h (started s.keeps l) (start_of (Applier k) number line ∷ h) (program_of config (Applier k) s.keeps l)) (sym may.1)
+    (none_safe config (Applier k) h (pass_program k) (started s.keeps (command.Apply k)) (start_of (Applier k) number line ∷ h) (pass_holds (Applier k) s.keeps.serial s.keeps.opened (Some (command.Apply k)) k))
 starts config h (Tablet k) s number line is may = absurd may
 starts config h (Status j) s number line is may = absurd may
 

@@ -14,7 +14,7 @@ use Rattle.run_machines.specs.Own.{time_of, ServesNext, ServesAll}
 use Rattle.run_machines.proofs.Basics.{same_refl}
 use Rattle.run_machines.proofs.Owns.{serves_at, serves_before}
 use Rattle.run_clocks.specs.Laws.{kind_of, floor_of, floor_at}
-use Rattle.run_clocks.proofs.Took.{took}
+use Rattle.run_clocks.proofs.Took.{took, chosen_least}
 use Rattle.run_readings.specs.Laws.{ComesFrom, TimesComeFrom}
 
 -- ## the clock
@@ -51,10 +51,6 @@ chosen_after false false last floor r c full is =
 chosen_next : (t : Bool) (last floor r c : ℕ) → (if t then Err (ClockRange r) else time_after (max last floor) r) ≡ Ok c → Of last floor r (micros_of c)
 chosen_next true last floor r c is = cc
 chosen_next false last floor r c is = chosen_after (nat_lt (micros_of (max last floor)) r) (nat_eq (logical_of (max last floor)) 4095) last floor r c refl is
-
-chosen_least : (t : Bool) (m r c : ℕ) → (if t then Err (ClockRange r) else Ok m) ≡ Ok c → m ≡ c
-chosen_least true m r c is = cc
-chosen_least false m r c is = cc
 
 greater_least : (last floor r : ℕ) → Of last floor r (micros_of (max (max last floor) (time_at r 0)))
 greater_least last floor r = elim (cases_lt (max last floor) (time_at r 0)) [

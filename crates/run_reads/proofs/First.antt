@@ -17,16 +17,17 @@ use Rattle.txn_data.specs.declared.window.Window.{Window}
 use Rattle.txn_types.specs.Lists.{Member}
 use Rattle.txn_types.specs.History.{History, own}
 use Rattle.txn_types.specs.Program.{Program, refusal_told}
-use Rattle.txn_types.specs.ReadProgram.{Progress, tablets_of, limit_of, read_refused, fixed, with_rows, read_done, round_two, restarted, met_then, round_one}
+use Rattle.txn_types.specs.ReadProgram.{Progress, tablets_of, limit_of, fixed, with_rows, read_done, round_two, restarted, met_then, round_one}
 use Rattle.txn_types.specs.ReadProgram.{Asked as Query}
 use Rattle.txn_types.specs.Run.{Steps, Serves}
 use Rattle.run_machines.proofs.Basics.{member_cases, eq_true}
 use Rattle.run_machines.proofs.Owns.{steps_at, stands_trans}
 use Rattle.run_clocks.proofs.Answered.{list_answered}
+use Rattle.run_messages.proofs.Shapes.{one_next}
 use Rattle.run_read_times.proofs.Above.{fits_served}
 use Rattle.run_courses.specs.Course.{IsPart, Came}
 use Rattle.run_courses.proofs.Parts.{part_trans}
-use Rattle.run_reads.specs.Visits.{Wanted, list_entry, collect_entry, Visit, MeetsUpTo, IsCollect, FirstVisit}
+use Rattle.run_reads.specs.Visits.{Wanted, list_entry, collect_entry, Visit, MeetsUpTo, IsCollect, WindowedVisit}
 use Rattle.run_reads.proofs.Asking.{HasValues, came_done, refused_came}
 use Rattle.run_reads.proofs.Rounds.{wanted, visit_lower, with_fixed, AfterVisit, visit_came, VisitsAt, one_visit, tablet_of, tablets_more, none_more, EndedSo, done_so, two_came}
 
@@ -64,14 +65,14 @@ met_up config h low m w k t window at path v steps =
 
 -- ## first visits
 
-abbrev pub FirstVisits : History → History → Actor → Query → ℕ → List ℕ → Type 0
-FirstVisits h low m a final ks = (k : ℕ) → Member k ks → FirstVisit h low m (wanted a k) k final
+abbrev pub WindowedVisits : History → History → Actor → Query → ℕ → List ℕ → Type 0
+WindowedVisits h low m a final ks = (k : ℕ) → Member k ks → WindowedVisit h low m (wanted a k) k final
 
 meets_raised : (r : Reply) (t final : ℕ) → t ≤ final → MeetsUpTo t r → MeetsUpTo final r
 meets_raised (reply.Met at path) t final le meets = omega (arith, le, meets)
 meets_raised r t final le meets = tt
 
-raised : (h low : History) (m : Actor) (w : Wanted) (k t final : ℕ) → t ≤ final → FirstVisit h low m w k t → FirstVisit h low m w k final
+raised : (h low : History) (m : Actor) (w : Wanted) (k t final : ℕ) → t ≤ final → WindowedVisit h low m w k t → WindowedVisit h low m w k final
 raised h low m w k t final le v = let up = v.not_after in record {
   t = v.t;
   limit = v.limit;
@@ -83,17 +84,17 @@ raised h low m w k t final le v = let up = v.not_after in record {
   answers = v.answers;
 }
 
-one_first : (h low : History) (m : Actor) (a : Query) (t final k : ℕ) (ks : List ℕ) → t ≤ final → FirstVisits h low m a t ks → FirstVisit h low m (wanted a k) k final → FirstVisits h low m a final (ks ++ k ∷ [])
+one_first : (h low : History) (m : Actor) (a : Query) (t final k : ℕ) (ks : List ℕ) → t ≤ final → WindowedVisits h low m a t ks → WindowedVisit h low m (wanted a k) k final → WindowedVisits h low m a final (ks ++ k ∷ [])
 one_first h low m a t final k ks le all new j of = elim (member_cases j ks (k ∷ []) of) [
   | inl old ↦ raised h low m (wanted a j) j t final le (all j old)
   | inr here ↦ elim here [
-    | inl is ↦ subst (λ (n : ℕ). FirstVisit h low m (wanted a n) n final) (sym is) new
+    | inl is ↦ subst (λ (n : ℕ). WindowedVisit h low m (wanted a n) n final) (sym is) new
     | inr none ↦ absurd none
   ]
 ]
 
 first_of : (config : Config) (h low mid : History) (m : Actor) (own had : Option ℕ) (a : Query) (s : Progress) (k final : ℕ) (next : Progress → Reply → Program ReadEnd) (end : ReadEnd) → Steps config h → IsPart low mid → (v : AfterVisit m h own mid had a s true k next end) → IsCollect v.answer →
-    s.t ≤ final → MeetsUpTo final v.answer → FirstVisit h low m (wanted a k) k final
+    s.t ≤ final → MeetsUpTo final v.answer → WindowedVisit h low m (wanted a k) k final
 first_of config h low mid m own had a s k final next end steps part v answers le meets =
     let lower = visit_lower h low mid m (wanted a k) k s.t (Some (record { g = a.g; limit = fixed k v.limit s.limits })) v.answer part v.visit in
     record {
@@ -109,32 +110,24 @@ first_of config h low mid m own had a s k final next end steps part v answers le
 
 -- ## the round
 
-abbrev pub one_next : Query → ℕ → List ℕ → Progress → Reply → Program ReadEnd
-one_next a k ks seen answer = elim answer [
-  | reply.Collected rows ↦ round_one a (with_rows k rows seen) ks
-  | reply.Met at path ↦ met_then a.strict (what.Restart at path) seen (round_one a (restarted at seen) ks)
-  | reply.Refused why ↦ read_refused (refusal_told (Tablet k) why) seen
-  | _ ↦ read_refused told_refusal.Memory seen
-]
-
 -- as long as it met nothing, its rows are of visits at its time
 abbrev pub Unmet : History → History → Actor → Query → Progress → List ℕ → Type 0
 Unmet h low m a s done = s.restarts ≡ 0 → (map tablet_of s.found ≡ done) × VisitsAt h low m a s.t s.found
 
 -- what the rest of the first round comes to, after visits of these tablets
 abbrev pub OneComes : History → History → Actor → Option ℕ → Option ℕ → Query → ReadEnd → List ℕ → Type 0
-OneComes h low m own had a end ks = (s : Progress) (mid : History) (done : List ℕ) → IsPart low mid → tablets_of a.places ≡ done ++ ks → FirstVisits h low m a s.t done → Unmet h low m a s done → Came m h own mid had (round_one a s ks) end →
-    EndedSo h low m a end (tablets_of a.places) × FirstVisits h low m a end.t (tablets_of a.places)
+OneComes h low m own had a end ks = (s : Progress) (mid : History) (done : List ℕ) → IsPart low mid → tablets_of a.places ≡ done ++ ks → WindowedVisits h low m a s.t done → Unmet h low m a s done → Came m h own mid had (round_one a s ks) end →
+    EndedSo h low m a end (tablets_of a.places) × WindowedVisits h low m a end.t (tablets_of a.places)
 
-round_done : (h low : History) (m : Actor) (own had : Option ℕ) (a : Query) (end : ReadEnd) (s : Progress) (mid : History) (done : List ℕ) (b : Bool) → HasValues end.what → IsPart low mid → nat_eq s.restarts 0 ≡ b → tablets_of a.places ≡ done → FirstVisits h low m a s.t done → Unmet h low m a s done →
-    Came m h own mid had (if b then read_done a s else round_two a (record s { found = [] }) (tablets_of a.places)) end → EndedSo h low m a end (tablets_of a.places) × FirstVisits h low m a end.t (tablets_of a.places)
+round_done : (h low : History) (m : Actor) (own had : Option ℕ) (a : Query) (end : ReadEnd) (s : Progress) (mid : History) (done : List ℕ) (b : Bool) → HasValues end.what → IsPart low mid → nat_eq s.restarts 0 ≡ b → tablets_of a.places ≡ done → WindowedVisits h low m a s.t done → Unmet h low m a s done →
+    Came m h own mid had (if b then read_done a s else round_two a (record s { found = [] }) (tablets_of a.places)) end → EndedSo h low m a end (tablets_of a.places) × WindowedVisits h low m a end.t (tablets_of a.places)
 round_done h low m own had a end s mid done true values part zero all first unmet came =
     let now = unmet (eq_true s.restarts 0 zero) in
     let r = done_so h low m a s end (tablets_of a.places) (came_done m h own mid had _ end came) (now.0 ∙ sym all) now.1 in
-    (r.0, subst (λ (n : ℕ). FirstVisits h low m a n (tablets_of a.places)) (sym r.1) (subst (λ (l : List ℕ). FirstVisits h low m a s.t l) (sym all) first))
+    (r.0, subst (λ (n : ℕ). WindowedVisits h low m a n (tablets_of a.places)) (sym r.1) (subst (λ (l : List ℕ). WindowedVisits h low m a s.t l) (sym all) first))
 round_done h low m own had a end s mid done false values part zero all first unmet came =
     let r = two_came h low m own had a end (tablets_of a.places) values (record s { found = [] }) mid part (λ f none. absurd none) came in
-    (r.0, subst (λ (n : ℕ). FirstVisits h low m a n (tablets_of a.places)) (sym r.1) (subst (λ (l : List ℕ). FirstVisits h low m a s.t l) (sym all) first))
+    (r.0, subst (λ (n : ℕ). WindowedVisits h low m a n (tablets_of a.places)) (sym r.1) (subst (λ (l : List ℕ). WindowedVisits h low m a s.t l) (sym all) first))
 
 met_on : (m : Actor) (h : History) (own : Option ℕ) (mid : History) (had : Option ℕ) (strict : Bool) (at : ℕ) (path : Parts) (seen : Progress) (next : Program ReadEnd) (end : ReadEnd) → HasValues end.what →
     Came m h own mid had (met_then strict (what.Restart at path) seen next) end → Came m h own mid had next end
@@ -158,13 +151,13 @@ one_came config h low m own had a end (k ∷ ks) steps values s mid done part al
     let v = visit_came m h own mid had a s true k (one_next a k ks) end values (λ seen lower last. refused_came m h own lower had (refusal_told (Tablet k) refusal.Memory) seen end last values) came in
     one_answer (λ s mid done part all first unmet came. one_came config h low m own had a end ks steps values s mid done part all first unmet came) v v.answer refl
   where
-    one_answer : OneComes h low m own had a end ks → (v : AfterVisit m h own mid had a s true k (one_next a k ks) end) (r : Reply) → v.answer ≡ r → EndedSo h low m a end (tablets_of a.places) × FirstVisits h low m a end.t (tablets_of a.places)
+    one_answer : OneComes h low m own had a end ks → (v : AfterVisit m h own mid had a s true k (one_next a k ks) end) (r : Reply) → v.answer ≡ r → EndedSo h low m a end (tablets_of a.places) × WindowedVisits h low m a end.t (tablets_of a.places)
     one_answer on v (reply.Collected rows) is =
         let seen = with_fixed s k v.limit in
         let window : Option Window = Some (record { g = a.g; limit = fixed k v.limit s.limits }) in
         let new : Visit h low m (wanted a k) k s.t window (reply.Collected rows) = visit_lower h low mid m (wanted a k) k s.t window (reply.Collected rows) part (subst (λ (r : Reply). Visit h mid m (wanted a k) k s.t window r) is v.visit) in
         let more : Came m h own v.high had (one_next a k ks seen (reply.Collected rows)) end = subst (λ (r : Reply). Came m h own v.high had (one_next a k ks seen r) end) is v.came in
-        let here : FirstVisit h low m (wanted a k) k s.t = first_of config h low mid m own had a s k s.t (one_next a k ks) end steps part v (subst IsCollect (sym is) tt) (omega arith) (subst (MeetsUpTo s.t) (sym is) tt) in
+        let here : WindowedVisit h low m (wanted a k) k s.t = first_of config h low mid m own had a s k s.t (one_next a k ks) end steps part v (subst IsCollect (sym is) tt) (omega arith) (subst (MeetsUpTo s.t) (sym is) tt) in
         on (with_rows k rows seen) v.high (done ++ k ∷ []) (part_trans low mid v.high part v.part) (all ∙ more_tablets done k ks) (one_first h low m a s.t s.t k done (omega arith) first here)
         (λ zero. let now = unmet zero in (none_more (map tablet_of (s.found ++ (record { tablet = k; rows = rows }) ∷ [])) ∙ (tablets_more s.found k rows [] ∙ ap (λ (l : List ℕ). l ++ k ∷ []) now.0), one_visit h low m a s.t k rows window s.found now.1 new)) more
     one_answer on v (reply.Met at path) is =
@@ -174,7 +167,7 @@ one_came config h low m own had a end (k ∷ ks) steps values s mid done part al
         let up = met_up config h mid m (wanted a k) k s.t window at path met steps in
         let le : s.t ≤ at = omega (arith, up) in
         let more : Came m h own v.high had (one_next a k ks seen (reply.Met at path)) end = subst (λ (r : Reply). Came m h own v.high had (one_next a k ks seen r) end) is v.came in
-        let here : FirstVisit h low m (wanted a k) k at = first_of config h low mid m own had a s k at (one_next a k ks) end steps part v (subst IsCollect (sym is) tt) le (subst (MeetsUpTo at) (sym is) (omega arith)) in
+        let here : WindowedVisit h low m (wanted a k) k at = first_of config h low mid m own had a s k at (one_next a k ks) end steps part v (subst IsCollect (sym is) tt) le (subst (MeetsUpTo at) (sym is) (omega arith)) in
         on (restarted at seen) v.high (done ++ k ∷ []) (part_trans low mid v.high part v.part) (all ∙ more_tablets done k ks) (one_first h low m a s.t at k done le first here)
         (λ zero. absurd (plus_not s.restarts zero)) (met_on m h own v.high had a.strict at path seen (round_one a (restarted at seen) ks) end values more)
     one_answer on v (reply.Refused why) is =

@@ -21,6 +21,7 @@ use Rattle.txn_types.specs.Program.{Program, Asks, refusal_told}
 use Rattle.txn_types.specs.ReadProgram.{Progress, TabletRows, paths_on, limit_of, with_limit, read_refused, ask_fates, window_of, fixed, visit, with_rows, all_rows, round_two}
 use Rattle.txn_types.specs.ReadProgram.{Asked as Query}
 use Rattle.run_machines.proofs.Basics.{member_cases}
+use Rattle.run_messages.proofs.Shapes.{two_next}
 use Rattle.run_courses.specs.Course.{IsPart, entry_of, Answer, answered, Came}
 use Rattle.run_courses.proofs.Parts.{part_refl, part_more, part_trans, part_stands}
 use Rattle.run_reads.specs.Visits.{Wanted, list_entry, collect_entry, Visit}
@@ -165,13 +166,6 @@ pub record EndedSo (h low : History) (m : Actor) (a : Query) (end : ReadEnd) (ta
   pub visits : VisitsAt h low m a end.t found
 
 -- ## the second round
-
-abbrev pub two_next : Query → ℕ → List ℕ → Progress → Reply → Program ReadEnd
-two_next a k ks seen answer = elim answer [
-  | reply.Collected rows ↦ round_two a (with_rows k rows seen) ks
-  | reply.Refused why ↦ read_refused (refusal_told (Tablet k) why) seen
-  | _ ↦ read_refused told_refusal.Memory seen
-]
 
 -- what the rest of the second round comes to
 abbrev TwoComes : History → History → Actor → Option ℕ → Option ℕ → Query → ReadEnd → List ℕ → Type 0

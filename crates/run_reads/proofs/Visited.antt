@@ -43,12 +43,12 @@ use Rattle.run_courses.proofs.Courses.{told_came_about}
 use Rattle.run_steady.proofs.Follows.{Inner, EndOf, read_goes, least_is, NotAtOnce, HasPlace, read_outer}
 use Rattle.run_steady.proofs.Finals.{places_some}
 use Rattle.run_steady.proofs.FinalTimes.{read_told as read_entry, Facts, read_facts, start_of_keeps}
-use Rattle.run_reads.specs.Visits.{Wanted, collect_entry, Visit, FirstVisit}
+use Rattle.run_reads.specs.Visits.{Wanted, collect_entry, Visit, WindowedVisit}
 use Rattle.run_values.specs.Laws.{IsReadOf}
 use Rattle.run_reads.specs.Laws.{laid_over, window_end, wanted_at, DidVisit, ReadsVisitTheirTablets}
 use Rattle.run_reads.proofs.Asking.{HasValues}
 use Rattle.run_reads.proofs.Rounds.{VisitsAt}
-use Rattle.run_reads.proofs.First.{FirstVisits, one_came}
+use Rattle.run_reads.proofs.First.{WindowedVisits, one_came}
 
 -- ## programs that take no reading
 
@@ -73,7 +73,7 @@ pub record Shown (h low : History) (m : Actor) (a : Query) (ws : List Written) (
   pub tablets : map (λ (f : TabletRows). f.tablet) found ≡ tablets_of a.places
   pub shows : rows ≡ rows_under a.kind ws a.places (all_rows a.kind a.places found)
   pub visits : VisitsAt h low m a at found
-  pub first : FirstVisits h low m a at (tablets_of a.places)
+  pub first : WindowedVisits h low m a at (tablets_of a.places)
 
 values_only : (kind : ReadKind) (ws : List Written) (places : List Place) (end : ReadEnd) (w : ReadWhat) (at restarts : ℕ) (rows : List Row) → end.what ≡ w → read_told kind ws places end ≡ told.Values at restarts rows → HasValues w
 values_only kind ws places end (what.Values found) at restarts rows is told_is = tt
@@ -106,7 +106,7 @@ program_shown config h low m own had o kind ws places t g strict limits at resta
         tablets = so.0.tablets_are;
         shows = told_so.1;
         visits = subst (λ (n : ℕ). VisitsAt h low m a n so.0.found) told_so.0 so.0.visits;
-        first = subst (λ (n : ℕ). FirstVisits h low m a n (tablets_of places)) told_so.0 so.1;
+        first = subst (λ (n : ℕ). WindowedVisits h low m a n (tablets_of places)) told_so.0 so.1;
       },
       r.3,
     )
@@ -204,7 +204,7 @@ visit_on g h low m w k t window answer part v =
       collected = part_stands c v.before h (part_trans (c ∷ v.before) g h (stands_part c v.before g v.collected) part);
     }
 
-first_on : (g h low : History) (m : Actor) (w : Wanted) (k final : ℕ) → IsPart g h → FirstVisit g low m w k final → FirstVisit h low m w k final
+first_on : (g h low : History) (m : Actor) (w : Wanted) (k final : ℕ) → IsPart g h → WindowedVisit g low m w k final → WindowedVisit h low m w k final
 first_on g h low m w k final part v = record {
   t = v.t;
   limit = v.limit;
@@ -252,7 +252,7 @@ did_visit config h g read s l f part keeps =
       tablets = same.tablets;
       rows = same.shows;
       finally = λ f of. let v = same.visits f of in (v.0, visit_on g h low (Session i) (wanted_at config read l.kind f.tablet) f.tablet read.at v.0 (reply.Collected f.rows) part v.1);
-      first = λ k of. first_on g h low (Session i) (wanted_at config read l.kind k) k read.at part (same.first k of);
+      windowed = λ k of. first_on g h low (Session i) (wanted_at config read l.kind k) k read.at part (same.first k of);
     }
 
 pub reads_visit : ReadsVisitTheirTablets

@@ -1,11 +1,8 @@
 -- What each finished read did, in every run.
 use Rattle.std.specs.Prelude.{◌≡◌, ℕ, List, [], Option, Some, None, map}
 use Rattle.txn_data.specs.declared.actor.Actor.TheVariants.{Session}
-use Rattle.txn_data.specs.declared.command.Command.{Command}
-use Rattle.txn_data.specs.declared.command.Command.TheVariants as command
 use Rattle.txn_data.specs.declared.config.Config.{Config}
 use Rattle.txn_data.specs.declared.read_kind.ReadKind.{ReadKind}
-use Rattle.txn_data.specs.declared.read_kind.ReadKind.TheVariants.{Get, Scan}
 use Rattle.txn_data.specs.declared.reply.Reply.TheVariants as reply
 use Rattle.txn_data.specs.declared.window.Window.{Window}
 use Rattle.txn_data.specs.declared.written.Written.{Written}
@@ -16,7 +13,7 @@ use Rattle.txn_types.specs.Reads.{Read, reads, start_of, places_of, line_of, ope
 use Rattle.txn_types.specs.Session.{Opened, writes_of, rows_under}
 use Rattle.txn_types.specs.Run.{Run}
 use Rattle.run_values.specs.Laws.{IsReadOf}
-use Rattle.run_reads.specs.Visits.{Wanted, Visit, FirstVisit}
+use Rattle.run_reads.specs.Visits.{Wanted, Visit, WindowedVisit}
 
 -- what the session had accepted of the transaction that was open where the read started
 abbrev pub laid_over : Option Opened → List Written
@@ -38,7 +35,8 @@ wanted_at config read kind k = record {
 }
 
 -- a finished read: it visited each of its tablets at its final time, which answered the rows that it shows, with the own
--- writes of its transaction laid over them; and it visited each of them first with its window
+-- writes of its transaction laid over them; and it visited each of them with its window, at a time not above the final one.
+-- The two may be one visit, and nothing is said of which of two came earlier
 pub record DidVisit (config : Config) (h : History) (read : Read) : Type 0 where
   pub kind : ReadKind
   pub of : IsReadOf kind (line_of config read)
@@ -48,8 +46,8 @@ pub record DidVisit (config : Config) (h : History) (read : Read) : Type 0 where
       ≡ rows_under kind (laid_over (opened_at config read)) (places_of (line_of config read)) (all_rows kind (places_of (line_of config read)) found)
   pub finally : (f : TabletRows) → Member f found → (window : Option Window)
       × Visit h (start_of read) (Session read.session) (wanted_at config read kind f.tablet) f.tablet read.at window (reply.Collected f.rows)
-  pub first : (k : ℕ) → Member k (tablets_of (places_of (line_of config read))) →
-      FirstVisit h (start_of read) (Session read.session) (wanted_at config read kind k) k read.at
+  pub windowed : (k : ℕ) → Member k (tablets_of (places_of (line_of config read))) →
+      WindowedVisit h (start_of read) (Session read.session) (wanted_at config read kind k) k read.at
 
 abbrev pub ReadsVisitTheirTablets : Type 0
 ReadsVisitTheirTablets = (config : Config) (h : History) (read : Read) → Run config h → Member read (reads h) → DidVisit config h read

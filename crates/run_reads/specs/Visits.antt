@@ -90,7 +90,7 @@ IsCollect r = ⊥
 
 -- a visit with the read's window, which ends at the limit that was answered, at a time not above `final`; what it met is
 -- not above that either
-pub record FirstVisit (h low : History) (m : Actor) (w : Wanted) (k final : ℕ) : Type 0 where
+pub record WindowedVisit (h low : History) (m : Actor) (w : Wanted) (k final : ℕ) : Type 0 where
   pub t : ℕ
   pub limit : ℕ
   pub answer : Reply

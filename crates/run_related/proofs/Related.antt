@@ -20,12 +20,12 @@ use Rattle.run_machines.specs.Own.{StandsOver}
 use Rattle.run_machines.proofs.Basics.{flat_member, member_flat}
 use Rattle.run_machines.proofs.Owns.{member_stands, in_order, Before, After, One}
 use Rattle.run_clocks.proofs.Runs.{member_before}
+use Rattle.run_opened.specs.Transaction.{IsWriteOf}
 use Rattle.run_kept.proofs.Versions.{bytes_same}
 use Rattle.run_places.specs.Laws.{started, IsPlace, IsPlaced}
 use Rattle.run_places.proofs.Runs.{writes_placed}
-use Rattle.run_sessions.specs.Laws.{IsWriteOf}
 use Rattle.run_order.specs.Laws.{IsCommittedWrite, ReadFrom}
-use Rattle.run_order.proofs.Order.{in_commit_order}
+use Rattle.run_order.proofs.Order.{in_commit_order, write_txn}
 use Rattle.run_related.specs.Laws.{RelatedCommitsDiffer, WritesFrom, RelatedCommitsReadAbove}
 use Rattle.run_related.proofs.Writes.{related_back, pair_of, Made, made_by, made_by_snapshot}
 
@@ -64,11 +64,6 @@ one_actor config h x y p q m n run agree rel =
 
 -- ## so one is before the other
 
-write_txn : (h : History) (x y c d : ℕ) (p q : Parts) (e : Entry) (event : Event) → IsCommittedWrite h x c p e event → IsCommittedWrite h y d q e event → x ≡ y
-write_txn h x y c d p q e (Serve from (request.Write meta number r op read seen fates) (reply.Written w) time append) one two = sym one.0 ∙ two.0
-write_txn h x y c d p q e (Serve from (request.Single z r op seen fates) answer (Some t) append) one two = sym one.0 ∙ two.0
-write_txn h x y c d p q e event one two = absurd one
-
 -- the first is before the second, and the second's write read not below it
 abbrev Earlier : (h : History) (x y : CommittedTxn) (q : Parts) → Made h y q → Type 0
 Earlier h x y q n = (x.at < y.at) × ReadFrom x.at n.entry.event
@@ -94,9 +89,10 @@ commits_differ config h x y run agree of_x of_y other rel same =
 
 -- ## and a write of the later one read not below it
 
-read_above : (y c : ℕ) (event : Event) → IsWriteOf y event → ReadFrom c event → WritesFrom y c event
-read_above y c (Serve from (request.Write meta number path op read seen fates) r time append) own low = (own, low)
-read_above y c event own low = absurd own
+read_above : (h : History) (y d c : ℕ) (path : Parts) (e : Entry) (event : Event) → IsCommittedWrite h y d path e event → IsWriteOf y event → ReadFrom c event → WritesFrom y c event
+read_above h y d c path e (Serve from (request.Write meta number q op read seen fates) (reply.Written w) time append) write own low = (own, low)
+read_above h y d c path e (Serve from (request.Single z q op seen fates) r (Some t) append) write own low = absurd own
+read_above h y d c path e event write own low = absurd write
 
 pub commits_read_above : RelatedCommitsReadAbove
 commits_read_above config h x y run agree of_x of_y other rel =
@@ -104,6 +100,6 @@ commits_read_above config h x y run agree of_x of_y other rel =
     let m = made_by_snapshot h x pair.one of_x pair.of_one in
     let n = made_by_snapshot h y pair.two of_y pair.of_two in
     elim (ordered config h x y pair.one.path pair.two.path m.0 n.0 run agree other pair.related) [
-      | inl before ↦ inl (n.0.entry, n.0.member, read_above y.txn x.at n.0.entry.event n.1 before.1)
-      | inr after ↦ inr (m.0.entry, m.0.member, read_above x.txn y.at m.0.entry.event m.1 after.1)
+      | inl before ↦ inl (n.0.entry, n.0.member, read_above h y.txn y.at x.at pair.two.path n.0.entry n.0.entry.event n.0.writes n.1 before.1)
+      | inr after ↦ inr (m.0.entry, m.0.member, read_above h x.txn x.at y.at pair.one.path m.0.entry m.0.entry.event m.0.writes m.1 after.1)
     ]

@@ -1,6 +1,5 @@
 -- Each write of a committed transaction was made by an entry.
-use Rattle.std.proofs.Common.{◌≡◌, ℕ, Bool, true, false, ◌||◌, List, [], ◌∷◌, ◌++◌, Some, map, flat_map, nat_le, nat_eq, refl, sym, ap, subst, inl, inr, ◌⊎◌, if◌then◌else◌}
-use Rattle.std.proofs.lemmas.Bool.{or_cases}
+use Rattle.std.proofs.Common.{◌≡◌, ℕ, Bool, true, false, ◌||◌, [], ◌∷◌, ◌++◌, Some, map, flat_map, nat_le, nat_eq, refl, sym, ap, subst, inl, inr, if◌then◌else◌}
 use Rattle.std.specs.List.{list_any}
 use Rattle.doc_path.specs.Path.{Parts, is_prefix, related}
 use Rattle.txn_data.specs.declared.committed_txn.CommittedTxn.{CommittedTxn}
@@ -10,45 +9,17 @@ use Rattle.txn_data.specs.declared.reply.Reply.TheVariants as reply
 use Rattle.txn_data.specs.declared.event.Event.{Event}
 use Rattle.txn_data.specs.declared.event.Event.TheVariants.{Serve}
 use Rattle.txn_data.specs.declared.entry.Entry.{Entry}
-use Rattle.txn_types.specs.Lists.{Member, inserted_by, sorted_by}
+use Rattle.txn_types.specs.Lists.{Member, sorted_by}
 use Rattle.txn_types.specs.History.{History, own, counting}
 use Rattle.txn_types.specs.Committed.{Numbered, accepted_by, writes, snapshot_by, single_by, committed_snapshots, committed}
 use Rattle.txn_types.specs.Reads.{related_writes}
-use Rattle.run_machines.proofs.Basics.{eq_true, member_cases, map_member, flat_member, member_flat}
+use Rattle.run_machines.proofs.Basics.{eq_true, member_cases, map_member, flat_member, member_flat, any_member, sorted_from}
 use Rattle.run_fates.specs.Laws.{CommittedAt}
-use Rattle.run_machines.proofs.Counted.{counted_member}
-use Rattle.run_machines.proofs.Owns.{own_member, member_counted}
-use Rattle.run_sessions.specs.Laws.{IsWriteOf}
+use Rattle.run_machines.proofs.Owns.{counting_part}
+use Rattle.run_opened.specs.Transaction.{IsWriteOf}
 use Rattle.run_order.specs.Laws.{IsCommittedWrite}
 
--- ## lists
-
-insert_choice : {A : Type 0} (b : Bool) (le : A → A → Bool) (x y z : A) (ys : List A) → Member z (if b then x ∷ y ∷ ys else y ∷ inserted_by le x ys) → (Member z (inserted_by le x ys) → (z ≡ x) ⊎ Member z ys) → (z ≡ x) ⊎ Member z (y ∷ ys)
-insert_choice true le x y z ys m more = m
-insert_choice false le x y z ys m more = elim m [
-  | inl here ↦ inr (inl here)
-  | inr later ↦ elim (more later) [ inl new ↦ inl new | inr old ↦ inr (inr old) ]
-]
-
-inserted_member : {A : Type 0} (le : A → A → Bool) (x z : A) (ys : List A) → Member z (inserted_by le x ys) → (z ≡ x) ⊎ Member z ys
-unfolding inserted_by
-inserted_member le x z [] m = m
-inserted_member le x z (y ∷ ys) m = insert_choice (le x y) le x y z ys m (inserted_member le x z ys)
-
-sorted_member : {A : Type 0} (le : A → A → Bool) (z : A) (xs : List A) → Member z (sorted_by le xs) → Member z xs
-unfolding sorted_by
-sorted_member le z [] m = m
-sorted_member le z (x ∷ xs) m = elim (inserted_member le x z (sorted_by le xs) m) [
-  | inl here ↦ inl here
-  | inr later ↦ inr (sorted_member le z xs later)
-]
-
-any_member : {A : Type 0} (test : A → Bool) (xs : List A) → list_any test xs ≡ true → (a : A) × Member a xs × (test a ≡ true)
-any_member test [] is = cc
-any_member test (x ∷ xs) is = elim (or_cases (test x) (list_any test xs) is) [
-  | inl here ↦ (x, inl refl, here)
-  | inr later ↦ let r = any_member test xs later in (r.0, inr r.1, r.2)
-]
+-- ## relation goes both ways
 
 or_back : (a b : Bool) → a || b ≡ true → b || a ≡ true
 or_back true true is = refl
@@ -99,7 +70,7 @@ unfolding writes
 snapshot_made h x w (Serve from (request.Commit y floor tablets) r (Some c) append) m committed of = elim m [
   | inl is ↦
       let n = map_member (λ (k : Numbered). k.write) w (sorted_by (λ (a b : Numbered). nat_le a.number b.number) (flat_map (λ (e : Entry). accepted_by y e.event) h)) (subst (λ (z : CommittedTxn). Member w z.writes) is of) in
-      let f = flat_member (λ (e : Entry). accepted_by y e.event) n.0 h (sorted_member (λ (a b : Numbered). nat_le a.number b.number) n.0 (flat_map (λ (e : Entry). accepted_by y e.event) h) n.1) in
+      let f = flat_member (λ (e : Entry). accepted_by y e.event) n.0 h (sorted_from (λ (a b : Numbered). nat_le a.number b.number) n.0 (flat_map (λ (e : Entry). accepted_by y e.event) h) n.1) in
       let own : x.txn ≡ y = ap (λ (z : CommittedTxn). z.txn) is in
       let made = accepted_event h y x.at f.0 f.0.event n.0 (subst (λ (z : ℕ). CommittedAt h z x.at) own committed) f.2 in (
         record {
@@ -122,9 +93,6 @@ single_event h x w e (Serve from (request.Single y path op seen fates) r (Some c
   | inr none ↦ absurd none
 ]
 single_event h x w e event counts m of = absurd m
-
-counting_part : (e : Entry) (h : History) → Member e (counting h) → Member e h
-counting_part e h m = own_member e e.actor h (counted_member e false (own e.actor h) (member_counted e e.actor h refl m))
 
 snapshot_at : (h : History) (x : CommittedTxn) → Member x (committed_snapshots h) → CommittedAt h x.txn x.at
 snapshot_at h x m = (x, m, refl, refl)

@@ -3,6 +3,7 @@ use Rattle.std.specs.Prelude.{◌≡◌, ℕ, ◌≤◌, true, ◌⊎◌}
 use Rattle.txn_data.specs.declared.committed_txn.CommittedTxn.{CommittedTxn}
 use Rattle.txn_data.specs.declared.config.Config.{Config}
 use Rattle.txn_data.specs.declared.request.Request.TheVariants as request
+use Rattle.txn_data.specs.declared.reply.Reply.TheVariants as reply
 use Rattle.txn_data.specs.declared.event.Event.{Event}
 use Rattle.txn_data.specs.declared.event.Event.TheVariants.{Serve}
 use Rattle.txn_data.specs.declared.entry.Entry.{Entry}
@@ -18,16 +19,17 @@ abbrev pub RelatedCommitsDiffer : Type 0
 RelatedCommitsDiffer = (config : Config) (h : History) (x y : CommittedTxn) → Run config h → PlacesAgree h → Member x (committed h) → Member y (committed h) →
     (x.txn ≡ y.txn → ⊥) → related_writes x y ≡ true → x.at ≡ y.at → ⊥
 
--- the entry writes for the transaction, and read not below this time
+-- the entry is an accepted write of the transaction, and read not below this time
 abbrev pub WritesFrom : ℕ → ℕ → Event → Type 0
-WritesFrom y c (Serve from (request.Write meta number path op read seen fates) r time append) = (meta.txn ≡ y) × (c ≤ read)
+WritesFrom y c (Serve from (request.Write meta number path op read seen fates) (reply.Written w) time append) = (meta.txn ≡ y) × (c ≤ read)
 WritesFrom y c event = ⊥
 
--- a write of the second transaction read not below the commit time of the first
+-- an accepted write of the second transaction read not below the commit time of the first
 abbrev pub ReadAbove : History → CommittedTxn → CommittedTxn → Type 0
 ReadAbove h x y = (f : Entry) × Member f h × WritesFrom y.txn x.at f.event
 
--- of two committed snapshot transactions with related writes, a write of the one read not below the commit time of the other
+-- of two committed snapshot transactions with related writes, an accepted write of the one read not below the commit time
+-- of the other
 abbrev pub RelatedCommitsReadAbove : Type 0
 RelatedCommitsReadAbove = (config : Config) (h : History) (x y : CommittedTxn) → Run config h → PlacesAgree h → Member x (committed_snapshots h) →
     Member y (committed_snapshots h) → (x.txn ≡ y.txn → ⊥) → related_writes x y ≡ true → ReadAbove h x y ⊎ ReadAbove h y x

@@ -6,8 +6,8 @@ pub fn related_commits_differ()
     ensures { RelatedCommitsDiffer }
 {}
 
-/// Where places agree, of two committed snapshot transactions with related writes, a write of the one read not below the
-/// commit time of the other.
+/// Where places agree, of two committed snapshot transactions with related writes, an accepted write of the one read not
+/// below the commit time of the other.
 pub fn related_commits_read_above()
     ensures { RelatedCommitsReadAbove }
 {}

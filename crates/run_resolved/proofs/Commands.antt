@@ -24,13 +24,13 @@ use Rattle.txn_types.specs.Program.{Program, Done, refusal_told}
 use Rattle.txn_types.specs.TxnProgram.{refused, lost, txn_program}
 use Rattle.txn_types.specs.ReadProgram.{read_program}
 use Rattle.txn_types.specs.Session.{Keeps, Opened, next_meta, timed_then, begin_program, read_at, read_inside, read_command, has_writes, write_command, commit_command, abort_command, if_closed, restart_program, command_program}
-use Rattle.txn_types.specs.Run.{Mover, MayStart, limits_of, program_of}
+use Rattle.txn_types.specs.Run.{Mover, MayStart, program_of}
 use Rattle.txn_data.specs.declared.meta.Meta.{Meta}
 use Rattle.txn_data.specs.declared.refusal.Refusal.TheVariants as refusal
 use Rattle.txn_types.specs.TxnProgram.{write_refused}
 use Rattle.txn_data.specs.declared.told_refusal.ToldRefusal.{ToldRefusal}
 use Rattle.txn_data.specs.declared.reply.Reply.{Reply}
-use Rattle.run_messages.proofs.Rules.{Stage, entry}
+use Rattle.run_messages.proofs.Rules.{entry, started}
 use Rattle.run_messages.proofs.Safe.{Safe, Keeping}
 use Rattle.run_messages.proofs.Shapes.{Always, then_always, OfReads, read_always}
 use Rattle.txn_types.specs.Plan.{IsCluster}
@@ -156,9 +156,6 @@ command_safe config cluster m z i s (command.SingleDel place priority) = single_
 command_safe config cluster m z i s (command.Restart actor) = none_safe config m z (restart_program actor) (restart_none actor)
 command_safe config cluster m z i s (command.Apply tablet) = pass_safe config m z tablet
 command_safe config cluster m z i s (command.Clock node micros) = none_safe config m z (Done told.Set) tt
-
-abbrev started : Keeps → Command → Stage
-started s line = record { keeps = s; line = Some line; reading = None; limits = limits_of s.opened; may_lose = true }
 
 starts : (config : Config) → IsCluster config → (h : History) (m : Actor) (s : Mover) (number : ℕ) (line : Command) → MayStart config m s line →
     Safe rules config m h (started s.keeps line) (entry m None (Start number line) ∷ h) (program_of config m s.keeps line)

@@ -13,7 +13,7 @@ use Rattle.txn_types.specs.Clock.{told_only, down_since}
 use Rattle.txn_types.specs.Tablet.{Intent, is_of, provisional, founds, others_on, tablet_standing}
 use Rattle.txn_types.specs.Run.{Run, Serves}
 use Rattle.run_machines.proofs.Basics.{filter_member}
-use Rattle.run_sessions.specs.Laws.{Begun}
+use Rattle.run_opened.specs.Transaction.{Begun}
 use Rattle.run_passes.proofs.Listed.{AllBegun, founds_member, intent_begun}
 
 same_others : (fs gs : List Found) → reply.Others fs ≡ reply.Others gs → fs ≡ gs

@@ -30,7 +30,7 @@ use Rattle.run_machines.proofs.Basics.{member_cases}
 use Rattle.run_messages.proofs.Rules.{Rules, Stage, hears, with_own, no_memory, entry, Later, lasts}
 use Rattle.run_messages.proofs.Safe.{Safe}
 use Rattle.run_messages.proofs.Shapes.{Always}
-use Rattle.run_sessions.proofs.Open.{begun_more}
+use Rattle.run_opened.proofs.Open.{begun_more}
 use Rattle.run_passes.proofs.Listed.{AllBegun}
 use Rattle.run_resolved.specs.Laws.{ToldWhenBegun}
 use Rattle.run_resolved.proofs.Listed.{others_begun}

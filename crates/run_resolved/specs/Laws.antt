@@ -10,7 +10,7 @@ use Rattle.txn_types.specs.History.{History}
 use Rattle.txn_types.specs.Run.{Run}
 use Rattle.run_machines.specs.Own.{StandsOver}
 use Rattle.run_fates.specs.Laws.{Tells}
-use Rattle.run_sessions.specs.Laws.{Begun}
+use Rattle.run_opened.specs.Transaction.{Begun}
 use Rattle.run_heard.specs.Laws.{Carries}
 
 -- an entry told this of the transaction, when it had been begun

@@ -10,30 +10,24 @@ use Rattle.txn_data.specs.declared.read_kind.ReadKind.TheVariants.{Get, Scan}
 use Rattle.txn_data.specs.declared.reply.Reply.{Reply}
 use Rattle.txn_data.specs.declared.request.Request.TheVariants as request
 use Rattle.txn_data.specs.declared.row.Row.{Row}
-use Rattle.txn_data.specs.declared.told.Told.{Told}
 use Rattle.txn_data.specs.declared.told.Told.TheVariants as told
 use Rattle.txn_data.specs.declared.event.Event.{Event}
 use Rattle.txn_data.specs.declared.event.Event.TheVariants.{Serve, Tell}
 use Rattle.txn_data.specs.declared.entry.Entry.{Entry}
 use Rattle.txn_types.specs.Lists.{Member}
 use Rattle.txn_types.specs.History.{History}
-use Rattle.txn_types.specs.Program.{Program}
 use Rattle.txn_types.specs.Session.{Keeps, Opened, read_command, command_program}
-use Rattle.txn_types.specs.Reads.{Read, reads, before_start, start_of, txn_of, opened_at, inside}
-use Rattle.txn_types.specs.Run.{Run, Steps, Flight, Quiet, Asked, Answered, flight, mover_at}
+use Rattle.txn_types.specs.Reads.{Read, reads, start_of, txn_of, opened_at, inside}
+use Rattle.txn_types.specs.Run.{Run, Steps, mover_at}
 use Rattle.run_machines.specs.Own.{StandsOver}
 use Rattle.run_machines.proofs.Basics.{same_cases}
 use Rattle.run_machines.proofs.Owns.{steps_at, member_stands, stands_member}
-use Rattle.run_messages.proofs.Rules.{Rules, Stage, stage_of, entry, Now}
-use Rattle.run_messages.proofs.Safe.{MoverIs, Rests}
-use Rattle.run_messages.proofs.Runs.{kept_by}
+use Rattle.run_messages.proofs.Rules.{entry}
 use Rattle.run_owners.specs.Owner.{owner_of, IsHomedAt}
 use Rattle.run_owners.proofs.Runs.{requests_homed}
-use Rattle.run_sessions.specs.Laws.{IsEndOf, Begun}
-use Rattle.run_sessions.proofs.Open.{IdleOk, OpenedOk, NoEnd}
-use Rattle.run_sessions.proofs.Open.{rules as session_rules}
-use Rattle.run_sessions.proofs.Commands.{keeping as session_keeping}
-use Rattle.run_sessions.proofs.Runs.{commit_of}
+use Rattle.run_opened.proofs.Open.{OpenedOk, NoEnd}
+use Rattle.run_opened.specs.Transaction.{IsEndOf, Begun}
+use Rattle.run_sessions.proofs.Runs.{commit_of, idle_ok}
 use Rattle.run_read_times.specs.Laws.{IsReadLine}
 use Rattle.run_courses.specs.Course.{IsPart, Came}
 use Rattle.run_courses.specs.Laws.{CameAbout}
@@ -49,21 +43,6 @@ use Rattle.run_right.specs.Laws.{CommitsAreAboveReads}
 use Rattle.run_right.proofs.Floors.{commit_floor}
 use Rattle.run_right.proofs.Starts.{under_way}
 use Rattle.run_right.proofs.Starts.{start_of as began_at}
-
--- ## where no command is under way, no end of the open transaction stands
-
-pub rests_idle : (R : Rules) (config : Config) (m : Actor) (z : History) (c : Stage) (h : History) (p : Program Told) (line : Option Command) (f : Flight) → MoverIs R config m z c h p line f → line ≡ None → Rests R config m h c.keeps
-rests_idle R config m z c h p None Quiet is none = is
-rests_idle R config m z c h p None (Asked a q) is none = absurd is
-rests_idle R config m z c h p None (Answered by r) is none = absurd is
-rests_idle R config m z c h p (Some line) f is none = cc
-
-idle_ok : (config : Config) (h : History) (i : ℕ) → Run config h → (mover_at config (Session i) h).line ≡ None → IdleOk config h (Session i) (mover_at config (Session i) h).keeps
-idle_ok config h i run none =
-    let m = Session i in
-    let s = mover_at config m h in
-    let rests : Rests (session_rules config) config m h s.keeps = rests_idle (session_rules config) config m (before_start m h) (stage_of s) h s.rest s.line (flight m h) ((kept_by (session_rules config) config (session_keeping config run.0) h run.1).movers m) none in
-    rests h Now
 
 -- ## a read that was told values is not in doubt
 
@@ -126,7 +105,7 @@ read_not_commit (command.Read strict places) of is = cc
 read_not_commit (command.Scan strict place) of is = cc
 read_not_commit line of is = of
 
-same_line : (line : Command) (o : Option Command) → o ≡ Some line → o ≡ Some command.Commit → line ≡ command.Commit
+pub same_line : (line : Command) (o : Option Command) → o ≡ Some line → o ≡ Some command.Commit → line ≡ command.Commit
 same_line line o one two = cc
 
 pub opened_at_start : (config : Config) (read : Read) (y : ℕ) (o : Option Opened) → txn_of o ≡ Some y → (x : Opened) × (o ≡ Some x) × (x.meta.txn ≡ y)

@@ -28,12 +28,14 @@ use Rattle.txn_types.specs.ReadProgram.{read_program}
 use Rattle.txn_types.specs.PassProgram.{pass_program}
 use Rattle.txn_types.specs.Session.{Keeps, Opened, next_meta, timed_then, begin_program, read_at, read_inside, read_command, has_writes, tablets_used, write_command, commit_command, abort_command, if_closed, restart_program, command_program, uses_serial, serial_after, moved_by, time_taken, after_write, after_end, after_read, opened_after}
 use Rattle.txn_types.specs.Run.{Mover, mover_at, Steps, MayStart, limits_of, program_of}
-use Rattle.run_messages.proofs.Rules.{Stage, kept, told_memory, entry}
+use Rattle.run_messages.proofs.Rules.{kept, told_memory, entry, started}
 use Rattle.run_messages.proofs.Safe.{Safe, Keeping}
 use Rattle.run_messages.proofs.Shapes.{Always, then_always, OfReads, read_always, OfPasses, pass_always, OfFinding, find_always}
 use Rattle.run_owners.proofs.Serials.{serial_least, serial_low}
-use Rattle.run_sessions.proofs.Tables.{ClosesCommit, ClosesAbort, commit_ended, abort_ended}
-use Rattle.run_sessions.proofs.Open.{tablet_of, OpenOk, OpenedOk, TouchesUpTo, IdleOk, rules, NoTouch, idle_step, open_up, touches_up, covered_up}
+use Rattle.run_owners.proofs.Commands.{few}
+use Rattle.run_opened.proofs.Tables.{commit_ended, abort_ended}
+use Rattle.run_opened.proofs.Open.{tablet_of, OpenOk, OpenedOk, TouchesUpTo, IdleOk, rules, NoTouch, idle_step, open_up, touches_up, covered_up}
+use Rattle.run_opened.specs.Laws.{ClosesCommit, ClosesAbort}
 use Rattle.run_sessions.proofs.Plain.{ClosesAll, plain_safe, told_safe, begin_safe}
 use Rattle.run_sessions.proofs.Writes.{put_safe}
 use Rattle.run_sessions.proofs.Ends.{Ending_, end_safe, all_used}
@@ -150,9 +152,6 @@ restart_plain : (a : Actor) → Plain_ (restart_program a)
 restart_plain a = (tt, elim [ reply.Restarted k ↦ tt | reply.Refused why ↦ tt | _ ↦ tt ])
 
 -- ## each command
-
-abbrev started : Keeps → Command → Stage
-started s line = record { keeps = s; line = Some line; reading = None; limits = limits_of s.opened; may_lose = true }
 
 abbrev CommandSafe : Config → ℕ → Keeps → Command → History → History → Program Told → Type 0
 CommandSafe config i s line z h p = Safe (rules config) config (Session i) z (started s line) h p
@@ -302,9 +301,6 @@ applier_closes config k s tablet = λ g reading limits lose t idle. record {
         OpenedOk config g (Applier k) last serial (opened_after config 0 s (command.Apply tablet) reading limits t opened)
     applier_opened None last serial reading limits t g ok = tt
     applier_opened (Some x) last serial reading limits t g ok = let mine = ok.homed.0 in cc
-
-few : (n k : ℕ) → n ≤ k → k < 2 ^ 40 → n + 1 < 2 ^ 64
-few n k le lt = omega (arith, le, lt)
 
 starts : (config : Config) → IsCluster config → (h : History) (m : Actor) (s : Mover) (number : ℕ) (line : Command) → Steps config h → mover_at config m h ≡ s → MayStart config m s line →
     IdleOk config (entry m None (Start number line) ∷ h) m s.keeps → Safe (rules config) config m h (started s.keeps line) (entry m None (Start number line) ∷ h) (program_of config m s.keeps line)

@@ -28,13 +28,13 @@ use Rattle.run_messages.proofs.Safe.{Ending, Safe}
 use Rattle.run_owners.proofs.Homed.{NotOpen}
 use Rattle.run_owners.proofs.Programs.{not_open}
 use Rattle.run_owners.proofs.Serials.{serial_is, next_serial}
-use Rattle.run_sessions.specs.Laws.{IsEndOf, IsCoveredBy}
-use Rattle.run_sessions.proofs.Tables.{Ended, Closed, Broken, Standing}
-use Rattle.run_sessions.proofs.Open.{begun_more, tablet_of, number_of, OpenOk, OpenedOk, TouchesTo, TouchesUpTo, IdleOk, IsGood, rules, open_up, touches_more, covered_more, no_end_more, idle_later}
+use Rattle.run_opened.proofs.Tables.{Ended, Closed, Broken, Standing}
+use Rattle.run_opened.proofs.Open.{begun_more, tablet_of, number_of, OpenOk, OpenedOk, TouchesTo, TouchesUpTo, IdleOk, IsGood, rules, open_up, touches_more, covered_more, no_end_more, idle_later}
 use Rattle.txn_types.specs.Lists.{has_number}
 use Rattle.run_machines.proofs.Basics.{eq_true}
 use Rattle.std.proofs.lemmas.Bool.{or_cases}
 use Rattle.std.proofs.Common.{nat_eq}
+use Rattle.run_opened.specs.Transaction.{IsEndOf, IsCoveredBy}
 use Rattle.run_sessions.proofs.Put.{stage, open_of, settled, touches_later}
 
 -- ## the tablets that a commit names are those of the writes

@@ -1,5 +1,3 @@
-pub mod Tables
-pub mod Open
 pub mod Plain
 pub mod Put
 pub mod Writes

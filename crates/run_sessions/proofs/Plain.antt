@@ -34,8 +34,8 @@ use Rattle.run_owners.specs.Owner.{owner_of}
 use Rattle.run_owners.proofs.Homed.{NotOpen}
 use Rattle.run_owners.proofs.Programs.{not_open}
 use Rattle.run_owners.proofs.Serials.{next_homed, id_owner, id_number, serial_is}
-use Rattle.run_sessions.specs.Laws.{Begun, IsBeginOf, IsEndOf, IsCoveredBy}
-use Rattle.run_sessions.proofs.Open.{begun_more, number_of, OpenedOk, TouchesTo, TouchesUpTo, IdleOk, IsGood, rules, idle_later, NoTouch, idle_served, idle_restarted, touches_up}
+use Rattle.run_opened.proofs.Open.{begun_more, number_of, OpenedOk, TouchesTo, TouchesUpTo, IdleOk, IsGood, rules, idle_later, NoTouch, idle_served, idle_restarted, touches_up}
+use Rattle.run_opened.specs.Transaction.{Begun, IsBeginOf, IsEndOf, IsCoveredBy}
 
 -- whatever is told, it rests on what it rested on
 abbrev pub ClosesAll : Config → Actor → Keeps → Option Command → Type 0

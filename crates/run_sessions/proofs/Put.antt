@@ -25,8 +25,9 @@ use Rattle.run_messages.proofs.Rules.{Stage, kept, no_memory, told_memory, Later
 use Rattle.run_messages.proofs.Safe.{Ending, Loses, Safe}
 use Rattle.run_owners.proofs.Homed.{NotOpen}
 use Rattle.run_owners.proofs.Serials.{serial_is, next_serial}
-use Rattle.run_sessions.proofs.Tables.{ClosesAbort, Ended, Closed, Broken, Standing, abort_ended}
-use Rattle.run_sessions.proofs.Open.{number_of, OpenOk, OpenedOk, TouchesTo, TouchesUpTo, IdleOk, rules, open_up, touches_more, idle_later}
+use Rattle.run_opened.proofs.Tables.{Ended, Closed, Broken, Standing, abort_ended}
+use Rattle.run_opened.proofs.Open.{number_of, OpenOk, OpenedOk, TouchesTo, TouchesUpTo, IdleOk, rules, open_up, touches_more, idle_later}
+use Rattle.run_opened.specs.Laws.{ClosesAbort}
 
 -- what the command is about: the session's line, that opened it, and what its told answers leave
 pub record Line (config : Config) (i : ℕ) (s : Keeps) (x : Opened) (line : Command) (place : Place) (op : Op) : Type 0 where

@@ -1,5 +1,5 @@
 -- The laws of a session's own order in every run.
-use Rattle.std.proofs.Common.{◌≡◌, true, ℕ, ◌<◌, List, Option, Some, refl, sym, ◌∙◌, ap, subst, arith}
+use Rattle.std.proofs.Common.{◌≡◌, true, ℕ, ◌<◌, List, Option, Some, refl, sym, ◌∙◌, ap, subst, arith, None}
 use Rattle.txn_data.specs.declared.actor.Actor.{Actor}
 use Rattle.txn_data.specs.declared.append.Append.{Append}
 use Rattle.txn_data.specs.declared.append.Append.TheVariants.{Nothing, Took, Failed}
@@ -9,21 +9,25 @@ use Rattle.txn_data.specs.declared.reply.Reply.{Reply}
 use Rattle.txn_data.specs.declared.event.Event.{Event}
 use Rattle.txn_data.specs.declared.event.Event.TheVariants.{Serve}
 use Rattle.txn_data.specs.declared.entry.Entry.{Entry}
+use Rattle.txn_data.specs.declared.actor.Actor.TheVariants.{Session}
 use Rattle.txn_types.specs.Lists.{Member}
 use Rattle.txn_types.specs.History.{History}
-use Rattle.txn_types.specs.Run.{Run}
-use Rattle.run_messages.proofs.Rules.{GoodServe}
-use Rattle.run_messages.proofs.Runs.{good_of}
+use Rattle.txn_types.specs.Run.{Run, mover_at, flight}
+use Rattle.run_messages.proofs.Rules.{GoodServe, Now, stage_of}
+use Rattle.run_messages.proofs.Runs.{good_of, kept_by}
 use Rattle.txn_types.specs.History.{was_logged}
+use Rattle.txn_types.specs.Reads.{before_start}
 use Rattle.run_machines.specs.Own.{time_of}
 use Rattle.run_machines.proofs.Owns.{Before, After, One, in_order}
 use Rattle.run_clocks.specs.Laws.{IsPast, floor_at}
 use Rattle.run_clocks.proofs.Runs.{times_keep_floors}
+use Rattle.run_messages.proofs.Safe.{Rests, rests_idle}
 use Rattle.run_fates.specs.Laws.{CommittedAt}
 use Rattle.run_fates.proofs.Life.{Commits}
 use Rattle.run_fates.proofs.Runs.{commit_entry}
-use Rattle.run_sessions.specs.Laws.{Begun, WritesAreBegun, IsLogged, IsEndOf, IsWriteOf, IsCoveredBy, NoWriteAfterEnd, CommitsCover, CommitsAboveWrites}
-use Rattle.run_sessions.proofs.Open.{AllCovered, NoEnd, rules}
+use Rattle.run_sessions.specs.Laws.{WritesAreBegun, NoWriteAfterEnd, CommitsCover, CommitsAboveWrites}
+use Rattle.run_opened.proofs.Open.{AllCovered, NoEnd, rules, IdleOk}
+use Rattle.run_opened.specs.Transaction.{Begun, IsLogged, IsEndOf, IsWriteOf, IsCoveredBy}
 use Rattle.run_sessions.proofs.Commands.{keeping}
 
 write_free : (config : Config) (before : History) (a : Actor) (event : Event) (x : ℕ) → GoodServe (rules config) before a event → IsWriteOf x event → NoEnd x before × Begun before x
@@ -43,6 +47,14 @@ commits_cover config h before e k m x floor tablets r time append run stands is 
     let good = good_of (rules config) config (keeping config run.0) h before k run.1 stands in
     let here : AllCovered x floor tablets before = subst (λ (ev : Event). GoodServe (rules config) before k.actor ev) is good in
     here e member
+
+-- what a session knows where it has no command under way
+pub idle_ok : (config : Config) (h : History) (i : ℕ) → Run config h → (mover_at config (Session i) h).line ≡ None → IdleOk config h (Session i) (mover_at config (Session i) h).keeps
+idle_ok config h i run none =
+    let m = Session i in
+    let s = mover_at config m h in
+    let rests : Rests (rules config) config m h s.keeps = rests_idle (rules config) config m (before_start m h) (stage_of s) h s.rest s.line (flight m h) ((kept_by (rules config) config (keeping config run.0) h run.1).movers m) none in
+    rests h Now
 
 -- ## commits are above their writes
 

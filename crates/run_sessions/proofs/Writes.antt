@@ -31,8 +31,8 @@ use Rattle.txn_types.specs.Run.{limits_after, may_lose_after}
 use Rattle.run_messages.proofs.Rules.{no_memory, entry}
 use Rattle.run_messages.proofs.Safe.{Safe}
 use Rattle.run_owners.proofs.Programs.{not_open}
-use Rattle.run_sessions.proofs.Tables.{Written, Accepted as WasAccepted, Faulty, Turned, written}
-use Rattle.run_sessions.proofs.Open.{begun_more, tablet_of, number_of, OpenOk, OpenedOk, TouchesUpTo, IdleOk, rules, open_more, touches_more, covered_up, covered_more, no_end_more, idle_later, idle_served}
+use Rattle.run_opened.proofs.Tables.{Written, Accepted as WasAccepted, Faulty, Turned, written}
+use Rattle.run_opened.proofs.Open.{begun_more, tablet_of, number_of, OpenOk, OpenedOk, TouchesUpTo, IdleOk, rules, open_more, touches_more, covered_up, covered_more, no_end_more, idle_later, idle_served}
 use Rattle.run_sessions.proofs.Put.{Line, stage, kept_idle, open_of, settled, abort_safe, stop_safe, lost_safe, loses_left}
 
 -- ## the accepted writes with one more

@@ -1,18 +1,15 @@
 -- What a session asks of its transactions in every run, one after another, and that a commit covers all its writes.
-use Rattle.std.specs.Prelude.{◌≡◌, ℕ, ◌<◌, ◌≤◌, List, Option, Some}
+use Rattle.std.specs.Prelude.{◌≡◌, ℕ, ◌<◌, List, Option, Some}
 use Rattle.doc_path.specs.Path.{Parts}
 use Rattle.txn_data.specs.declared.actor.Actor.{Actor}
-use Rattle.txn_data.specs.declared.actor.Actor.TheVariants.{Tablet}
 use Rattle.txn_data.specs.declared.append.Append.{Append}
-use Rattle.txn_data.specs.declared.append.Append.TheVariants.{Nothing, Failed}
+use Rattle.txn_data.specs.declared.append.Append.TheVariants.{Failed}
 use Rattle.txn_data.specs.declared.config.Config.{Config}
 use Rattle.txn_data.specs.declared.fate_of.FateOf.{FateOf}
 use Rattle.txn_data.specs.declared.meta.Meta.{Meta}
 use Rattle.txn_data.specs.declared.op.Op.{Op}
 use Rattle.txn_data.specs.declared.request.Request.TheVariants as request
 use Rattle.txn_data.specs.declared.reply.Reply.{Reply}
-use Rattle.txn_data.specs.declared.reply.Reply.TheVariants as reply
-use Rattle.txn_data.specs.declared.event.Event.{Event}
 use Rattle.txn_data.specs.declared.event.Event.TheVariants.{Serve}
 use Rattle.txn_data.specs.declared.entry.Entry.{Entry}
 use Rattle.txn_types.specs.Lists.{Member}
@@ -20,29 +17,7 @@ use Rattle.txn_types.specs.History.{History}
 use Rattle.txn_types.specs.Run.{Run}
 use Rattle.run_machines.specs.Own.{StandsOver}
 use Rattle.run_fates.specs.Laws.{CommittedAt}
-
--- something was to be logged
-abbrev pub IsLogged : Append → Type 0
-IsLogged Nothing = ⊥
-IsLogged append = Unit {0}
-
--- a commit or an abort of the transaction that was to be logged
-abbrev pub IsEndOf : ℕ → Event → Type 0
-IsEndOf x (Serve from (request.Commit y floor tablets) r time append) = (y ≡ x) × IsLogged append
-IsEndOf x (Serve from (request.Abort y) r time append) = (y ≡ x) × IsLogged append
-IsEndOf x event = ⊥
-
-abbrev pub IsWriteOf : ℕ → Event → Type 0
-IsWriteOf x (Serve from (request.Write meta number path op read seen fates) r time append) = meta.txn ≡ x
-IsWriteOf x event = ⊥
-
--- a Begin of the transaction that was answered Begun
-abbrev pub IsBeginOf : ℕ → Event → Type 0
-IsBeginOf x (Serve from (request.Begin y isolation priority) reply.Begun time append) = y ≡ x
-IsBeginOf x event = ⊥
-
-abbrev pub Begun : History → ℕ → Type 0
-Begun h x = (e : Entry) × Member e h × IsBeginOf x e.event
+use Rattle.run_opened.specs.Transaction.{IsEndOf, IsWriteOf, Begun, IsCoveredBy}
 
 -- a transaction writes only once its Begin was answered Begun
 abbrev pub WritesAreBegun : Type 0
@@ -53,17 +28,6 @@ WritesAreBegun = (config : Config) (h before : History) (e : Entry) (x : ℕ) �
 abbrev pub NoWriteAfterEnd : Type 0
 NoWriteAfterEnd = (config : Config) (h before : History) (e k : Entry) (x : ℕ) → Run config h → StandsOver e before h → IsWriteOf x e.event →
     Member k before → IsEndOf x k.event → ⊥
-
-abbrev pub IsOn : Actor → List ℕ → Type 0
-IsOn (Tablet k) tablets = Member k tablets
-IsOn a tablets = ⊥
-
--- a write of a transaction is covered by a floor and some tablets: its append did not fail, it read not above the floor,
--- and where it was accepted, it was not above the floor and at one of the tablets
-abbrev pub IsCoveredBy : ℕ → ℕ → List ℕ → Actor → Event → Type 0
-IsCoveredBy x floor tablets a (Serve from (request.Write meta number path op read seen fates) r time append) =
-    meta.txn ≡ x → (append ≡ Failed → ⊥) × (read ≤ floor) × ((w : ℕ) → time ≡ Some w → (w ≤ floor) × IsOn a tablets)
-IsCoveredBy x floor tablets a event = Unit {0}
 
 -- a request to commit covers all that the transaction wrote before
 abbrev pub CommitsCover : Type 0

@@ -1,8 +1,8 @@
 //! What a session asks of its transactions in every run, and that a commit covers all its writes.
 //!
-//! The laws of a session's own order, for every history that is a run: nothing is written before a Begin, after a commit or an abort that was to be logged
-//! nothing more is written, a commit covers all that was written before, and so a transaction commits above all its
-//! writes. A call does nothing.
+//! The laws of a session's own order, for every history that is a run: nothing is written before a Begin was answered;
+//! after a commit or an abort that was to be logged nothing more is written; a commit covers all that was written before;
+//! and so a transaction commits above all its writes. A call does nothing.
 #![tactic(auto)]
 
 mod laws;

@@ -26,6 +26,7 @@ use Rattle.run_messages.proofs.Rules.{Rules, Stage, stage_of, entry}
 use Rattle.run_messages.proofs.Safe.{MoverIs}
 use Rattle.run_messages.proofs.Runs.{kept_by}
 use Rattle.run_courses.proofs.Courses.{rules, keeping}
+use Rattle.run_apart.proofs.Steps.{or_none}
 use Rattle.run_steady.proofs.Follows.{met_by, Final, NotAtOnce, Outer, inner_outer, HasPlace, line_outer}
 
 -- ## a mover that can hear something asked for it
@@ -72,10 +73,6 @@ start_timed config i s opened (command.Begin priority) starts = line_outer confi
 start_timed config i s opened (command.Read strict places) starts = line_outer config i s (command.Read strict places) (places_some 0 places starts.0)
 start_timed config i s opened (command.Scan strict place) starts = line_outer config i s (command.Scan strict place) tt
 start_timed config i s opened line starts = tt
-
-or_none : (o : Option ℕ) → or_else o None ≡ o
-or_none (Some n) = refl
-or_none None = refl
 
 ask_outer : (s : Keeps) (own reading : Option ℕ) (mets : List ℕ) (p : Program Told) (to : Actor) (asked : Request) → turn_with p reading ≡ program.Ask to asked → Outer s own mets p → Outer s (or_else own reading) mets (with_reading p reading)
 ask_outer s own None mets (Done t) to asked is outer = cc
@@ -162,7 +159,7 @@ can_final s reading mets t can timed outer = elim can [
 shorter : (k n : ℕ) → suc k ≤ n → k < n
 shorter k n le = omega (arith, le)
 
-unread : (a : Actor) (n : ℕ) (h : History) → length h ≤ n → reading_after a n h ≡ None
+pub unread : (a : Actor) (n : ℕ) (h : History) → length h ≤ n → reading_after a n h ≡ None
 unfolding reading_after
 unread a n [] le = refl
 unread a n (e ∷ h) le = let lt : nat_lt (length h) n ≡ true = lt-ltb (length h) n (shorter (length h) n le) in rw lt refl

@@ -4,7 +4,6 @@ use Rattle.hybrid_time.specs.Time.{time_at, limit_time, least_time, greatest_rea
 use Rattle.hybrid_time.specs.declared.time_refusal.TimeRefusal.{TimeRefusal}
 use Rattle.hybrid_time.specs.declared.time_refusal.TimeRefusal.TheVariants as time_refusal
 use Rattle.txn_data.specs.declared.actor.Actor.{Actor}
-use Rattle.txn_data.specs.declared.actor.Actor.TheVariants.{Tablet}
 use Rattle.txn_data.specs.declared.command.Command.{Command}
 use Rattle.txn_data.specs.declared.command.Command.TheVariants as command
 use Rattle.txn_data.specs.declared.config.Config.{Config}
@@ -26,11 +25,12 @@ use Rattle.txn_data.specs.declared.txn_step.TxnStep.TheVariants as step
 use Rattle.txn_data.specs.declared.event.Event.TheVariants.{Hear}
 use Rattle.txn_data.specs.declared.written.Written.{Written}
 use Rattle.txn_types.specs.Lists.{or_zero, rising, with_number}
-use Rattle.txn_types.specs.Program.{Program, Done, Asks, Reads, then_do, refusal_told}
-use Rattle.txn_types.specs.ReadProgram.{Asked, Progress, tablets_of, with_limit, read_refused, ask_fates, visit, with_rows, read_done, round_two, restarted, met_then, round_one, read_program}
+use Rattle.txn_types.specs.Program.{Program, Done, Asks, Reads, then_do}
+use Rattle.txn_types.specs.ReadProgram.{Asked, Progress, tablets_of, with_limit, ask_fates, visit, with_rows, read_done, round_two, restarted, met_then, round_one, read_program}
 use Rattle.txn_types.specs.TxnProgram.{refused, txn_program}
 use Rattle.txn_types.specs.Reads.{met_heard, last_met}
 use Rattle.txn_types.specs.Session.{Keeps, Opened, next_meta, timed_then, begin_program, read_at, read_inside, read_told, writes_of, has_writes, read_command, if_closed, command_program}
+use Rattle.run_messages.proofs.Shapes.{one_next, two_next}
 
 abbrev pub met_by : Actor → Reply → List ℕ → List ℕ
 met_by from r mets = elim (met_heard (Hear from r)) [ Some at ↦ at ∷ mets | None ↦ mets ]
@@ -78,21 +78,6 @@ visit_goes u mets a s windowed k next goes = λ from. elim [
   | reply.Listed limit others ↦ fates_go u mets (record s { limits = with_limit k limit s.limits }) others [] _ (λ fates by answer. goes (record s { limits = with_limit k limit s.limits }) by answer refl refl)
   | reply.Refused why ↦ tt
   | _ ↦ tt
-]
-
-abbrev two_next : Asked → ℕ → List ℕ → Progress → Reply → Program ReadEnd
-two_next a k ks seen answer = elim answer [
-  | reply.Collected rows ↦ round_two a (with_rows k rows seen) ks
-  | reply.Refused why ↦ read_refused (refusal_told (Tablet k) why) seen
-  | _ ↦ read_refused told_refusal.Memory seen
-]
-
-abbrev one_next : Asked → ℕ → List ℕ → Progress → Reply → Program ReadEnd
-one_next a k ks seen answer = elim answer [
-  | reply.Collected rows ↦ round_one a (with_rows k rows seen) ks
-  | reply.Met at path ↦ met_then a.strict (what.Restart at path) seen (round_one a (restarted at seen) ks)
-  | reply.Refused why ↦ read_refused (refusal_told (Tablet k) why) seen
-  | _ ↦ read_refused told_refusal.Memory seen
 ]
 
 two_goes : (u : ℕ) (mets : List ℕ) (a : Asked) (s : Progress) (ks : List ℕ) → TimeIs u mets s.t s.restarts → GoesOn u mets (round_two a s ks)

@@ -1,7 +1,6 @@
 -- A session's time never falls, and no read is below it.
 use Rattle.std.proofs.Common.{◌≡◌, ℕ, ◌+◌, ◌≤◌, max, Bool, true, false, ◌&&◌, List, [], ◌∷◌, Option, Some, None, Result, Ok, Err, nat_eq, nat_lt, refl, sym, ◌∙◌, ap, subst, inl, inr, if◌then◌else◌, arith}
-use Rattle.std.proofs.lemmas.Bool.{or_cases, and_parts}
-use Rattle.std.specs.List.{list_any}
+use Rattle.std.proofs.lemmas.Bool.{and_parts}
 use Rattle.hybrid_time.specs.Time.{time_at, limit_time, least_time, greatest_reading}
 use Rattle.hybrid_time.specs.declared.time_refusal.TimeRefusal.{TimeRefusal}
 use Rattle.hybrid_time.specs.declared.time_refusal.TimeRefusal.TheVariants as time_refusal
@@ -36,12 +35,12 @@ use Rattle.txn_types.specs.Session.{Keeps, Opened, timed_then, read_at, read_tol
 use Rattle.txn_types.specs.Reads.{Read, reads, before_start, start_of, began_by, began_time, begin_of, origin_under, origin, inside, txn_of, first_read_time, met_since, read_time, is_commit_of}
 use Rattle.txn_types.specs.Run.{Run, Steps, Mover, IsUnderWay, session_of, mover_at, mover_after, kept_after}
 use Rattle.run_machines.specs.Own.{StandsOver}
-use Rattle.run_machines.proofs.Basics.{same_cases, same_true, same_refl, eq_refl, eq_true, eq_cases}
+use Rattle.run_machines.proofs.Basics.{same_cases, same_true, same_refl, eq_refl, eq_true, eq_cases, any_member}
 use Rattle.run_machines.proofs.Owns.{steps_at, member_stands}
 use Rattle.run_messages.proofs.Rules.{entry}
 use Rattle.run_owners.specs.Owner.{owner_of}
 use Rattle.run_owners.proofs.Serials.{id_owner, id_number}
-use Rattle.run_sessions.proofs.Open.{number_of}
+use Rattle.run_opened.proofs.Open.{number_of}
 use Rattle.run_read_times.specs.Laws.{IsReadLine, IsBeginLine, IsUp, IsToldAt}
 use Rattle.run_read_times.proofs.Above.{fits_served, fits_restarted, fits_memory}
 use Rattle.run_read_times.proofs.Holds.{Holds, then_holds, NoWrite, read_holds}
@@ -54,11 +53,12 @@ use Rattle.run_apart.proofs.Steps.{or_none, first_read, start_keeps}
 use Rattle.run_apart.proofs.Keeps.{OpenedRead}
 use Rattle.run_apart.proofs.Sessions.{began_first}
 use Rattle.run_apart.proofs.Rising.{sessions_read, time_rises}
-use Rattle.run_steady.specs.Laws.{TellsCommit, ReadsAreSteady}
+use Rattle.run_steady.specs.Laws.{ReadsAreSteady}
 use Rattle.run_steady.proofs.Follows.{Final, Outer}
 use Rattle.run_steady.proofs.Finals.{Timed, timed_at, can_final}
 use Rattle.run_steady.proofs.FinalTimes.{read_told as read_entry, Facts, read_facts, part_start, part_steps, start_of_keeps, reads_final}
-use Rattle.run_steady.proofs.Commits.{commit_times}
+use Rattle.run_told_commits.proofs.Commits.{commit_times}
+use Rattle.run_told_commits.specs.Laws.{TellsCommit}
 
 -- ## a session's time never falls
 
@@ -172,11 +172,11 @@ about_from config i s h low o None at restarts rows steps of none came = absurd 
 
 -- ## a begin is not below it
 
-timed_begin : (s : Keeps) (own_reading : Option ℕ) (mets : List ℕ) (p : Program Told) (line : Option Command) → IsBeginLine line → Timed s own_reading mets p line → Outer s own_reading mets p
+pub timed_begin : (s : Keeps) (own_reading : Option ℕ) (mets : List ℕ) (p : Program Told) (line : Option Command) → IsBeginLine line → Timed s own_reading mets p line → Outer s own_reading mets p
 timed_begin s o mets p (Some (command.Begin priority)) of timed = timed
 timed_begin s o mets p line of timed = absurd of
 
-begin_some : (o : Option Command) → IsBeginLine o → (line : Command) × (o ≡ Some line)
+pub begin_some : (o : Option Command) → IsBeginLine o → (line : Command) × (o ≡ Some line)
 begin_some (Some line) of = (line, refl)
 begin_some None of = absurd of
 
@@ -216,7 +216,7 @@ above_not config x e h none above =
     above_of config x (e ∷ h) (begin_of x h) (began_time x h) (begin_is x e h ∙ ap (λ (o : Option ℕ). begin_with x e h o) none)
     (began_is x e h ∙ (ap (λ (o : Option ℕ). or_else (began_time x h) o) none ∙ or_none (began_time x h))) above
 
-began_not : (x y at : ℕ) → (y ≡ x → ⊥) → (if nat_eq y x then Some at else None) ≡ None
+pub began_not : (x y at : ℕ) → (y ≡ x → ⊥) → (if nat_eq y x then Some at else None) ≡ None
 began_not x y at other = elim (eq_cases y x) [ inl s ↦ absurd (other s.1) | inr s ↦ rw s.0 refl ]
 
 began_mine : (y at : ℕ) → (if nat_eq y y then Some at else None) ≡ Some at
@@ -333,13 +333,6 @@ read_above config h read run m =
 
 -- ## the law
 
-any_entry : (test : Entry → Bool) (h : History) → list_any test h ≡ true → (e : Entry) × Member e h × (test e ≡ true)
-any_entry test [] is = cc
-any_entry test (e ∷ h) is = elim (or_cases (test e) (list_any test h) is) [
-  | inl here ↦ (e, inl refl, here)
-  | inr more ↦ let r = any_entry test h more in (r.0, inr r.1, r.2)
-]
-
 commit_told : (config : Config) (h low : History) (i y : ℕ) (a : Actor) (reading : Option ℕ) (event : Event) (x : CommittedTxn) (before : History) → Steps config low → StandsOver (entry a reading event) before low → a ≡ Session i → is_commit_of y event ≡ true → TellsCommit h event →
     Member x (committed h) → x.txn ≡ y → x.at ≤ (mover_at config (Session i) low).keeps.last
 commit_told config h low i y a reading (Tell number (told.Committed z at)) x before steps stands own is tells of same =
@@ -362,7 +355,7 @@ reads_steady config h read run m =
     let in_h : IsPart low h = part_trans low read.before h in_before (part_tail (entry (Session i) t.reading (Tell t.number (told.Values read.at read.restarts read.rows))) read.before h (stands_part (entry (Session i) t.reading (Tell t.number (told.Values read.at read.restarts read.rows))) read.before h t.stands)) in
     record {
       commits = λ x of told_own.
-          let e = any_entry (λ (g : Entry). same_actor g.actor (Session i) && is_commit_of x.txn g.event) low told_own in
+          let e = any_member (λ (g : Entry). same_actor g.actor (Session i) && is_commit_of x.txn g.event) low told_own in
           let parts = and_parts (same_actor e.0.actor (Session i)) (is_commit_of x.txn e.0.event) e.2 in
           let place = member_stands e.0 low e.1 in
           let le = commit_told config h low i x.txn e.0.actor e.0.reading e.0.event x place.0 steps_low place.1 (same_true e.0.actor (Session i) parts.0) parts.1 (commit_times config h e.0 run (part_member e.0 low h in_h e.1)) of refl in

@@ -1,28 +1,13 @@
--- What each finished read is told of its time in every run, and that a session's time never falls.
-use Rattle.std.specs.Prelude.{◌≡◌}
-use Rattle.txn_data.specs.declared.committed_txn.CommittedTxn.{CommittedTxn}
+-- What each finished read is told of its time in every run.
 use Rattle.txn_data.specs.declared.config.Config.{Config}
-use Rattle.txn_data.specs.declared.told.Told.TheVariants as told
-use Rattle.txn_data.specs.declared.event.Event.{Event}
-use Rattle.txn_data.specs.declared.event.Event.TheVariants.{Tell}
-use Rattle.txn_data.specs.declared.entry.Entry.{Entry}
 use Rattle.txn_types.specs.Lists.{Member}
 use Rattle.txn_types.specs.History.{History}
-use Rattle.txn_types.specs.Committed.{committed}
 use Rattle.txn_types.specs.Reads.{Read, reads, IsFinal, Steady}
 use Rattle.txn_types.specs.Run.{Run}
 
 -- each finished read is told its final time, and how often it met something
 abbrev pub ReadsAreFinal : Type 0
 ReadsAreFinal = (config : Config) (h : History) (read : Read) → Run config h → Member read (reads h) → IsFinal config read
-
--- where Committed is told of a transaction, each commit of it is at the time told
-abbrev pub TellsCommit : History → Event → Type 0
-TellsCommit h (Tell number (told.Committed y at)) = (x : CommittedTxn) → Member x (committed h) → x.txn ≡ y → x.at ≡ at
-TellsCommit h event = Unit {0}
-
-abbrev pub CommitTimesAreTold : Type 0
-CommitTimesAreTold = (config : Config) (h : History) (e : Entry) → Run config h → Member e h → TellsCommit h e.event
 
 -- each finished read is steady
 abbrev pub ReadsAreSteady : Type 0

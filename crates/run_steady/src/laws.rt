@@ -1,14 +1,9 @@
 //! What finished reads are told of their times in every run, for proofs of callers. A call does nothing.
-ghost use Rattle.run_steady.specs.Laws.{CommitTimesAreTold, ReadsAreFinal, ReadsAreSteady};
+ghost use Rattle.run_steady.specs.Laws.{ReadsAreFinal, ReadsAreSteady};
 
 /// Each finished read is told its final time, and how often it met something.
 pub fn reads_are_final()
     ensures { ReadsAreFinal }
-{}
-
-/// Where Committed is told of a transaction, it is committed at no other time than the one told.
-pub fn commit_times_are_told()
-    ensures { CommitTimesAreTold }
 {}
 
 /// A finished read is not earlier than what its own session was told committed before, nor than an earlier read of it.

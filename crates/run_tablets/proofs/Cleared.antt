@@ -19,14 +19,14 @@ use Rattle.run_machines.specs.Own.{piece, landed, StandsOver, ServesNext}
 use Rattle.run_machines.proofs.Basics.{eq_refl, member_cases, filter_member}
 use Rattle.run_machines.proofs.Counted.{own_all}
 use Rattle.run_machines.proofs.Pieces.{no_piece}
-use Rattle.run_machines.proofs.Owns.{serves_own, serves_at, stands_own, member_stands}
+use Rattle.run_machines.proofs.Owns.{serves_own, serves_at, stands_own, member_stands, run_until}
 use Rattle.run_machines.proofs.Landed.{logged, standing_landed}
 use Rattle.run_machines.proofs.Since.{Since, PieceIs, IsLanding, since_from, own_stands}
 use Rattle.run_clocks.proofs.Runs.{member_before}
-use Rattle.run_sessions.specs.Laws.{IsWriteOf}
+use Rattle.run_opened.specs.Transaction.{IsWriteOf}
 use Rattle.run_sessions.proofs.Runs.{commit_of, no_write_after}
 use Rattle.run_heard.specs.Laws.{AppliesAt, HasApplied}
-use Rattle.run_heard.proofs.Runs.{run_until, applies_committed}
+use Rattle.run_heard.proofs.Runs.{applies_committed}
 use Rattle.run_tablets.specs.Laws.{AppliedStaysApplied}
 use Rattle.run_tablets.proofs.Table.{applied_by}
 

@@ -8,9 +8,9 @@ use Rattle.txn_types.specs.Lists.{Member, or_else, sorted_by}
 use Rattle.txn_types.specs.Writes.{last_word}
 use Rattle.txn_types.specs.Committed.{commits_before, fold_of}
 use Rattle.txn_types.specs.Tablet.{writes_at}
-use Rattle.run_machines.proofs.Basics.{eq_true, eq_cases, member_filter, filter_member}
+use Rattle.run_machines.proofs.Basics.{eq_true, eq_cases, member_filter, filter_member, sorted_from}
 use Rattle.run_values.specs.Laws.{Ranked, IsUpTo, IsOn, InOrder, IsInSome, IsRankOf, AreItsRanks, AreRanked, VersionsLeaveTheFold}
-use Rattle.run_values.proofs.Orders.{Sorts, sorted_from, sorted_into, sorted_order}
+use Rattle.run_values.proofs.Orders.{Sorts, sorted_into, sorted_order}
 use Rattle.run_values.proofs.Over.{last_after}
 use Rattle.run_values.proofs.Last.{IsLast, NoWord, Word, AreUnique, last_same, last_of, IsSome, last_in, last_version}
 
@@ -83,7 +83,7 @@ commit_first x y is = elim (or_cases (nat_lt x.at y.at) (nat_eq x.at y.at && nat
   | inr tie ↦ let same = eq_true x.at y.at (and_parts (nat_eq x.at y.at) (nat_le x.txn y.txn) tie).0 in omega (arith, same)
 ]
 
-first_not : (a b : Bool) → a || b ≡ false → a ≡ false
+pub first_not : (a b : Bool) → a || b ≡ false → a ≡ false
 first_not true b is = cc
 first_not false b is = refl
 

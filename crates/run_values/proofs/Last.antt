@@ -7,9 +7,9 @@ use Rattle.txn_data.specs.declared.written.Written.{Written}
 use Rattle.txn_types.specs.Lists.{Member, or_else, sorted_by}
 use Rattle.txn_types.specs.Writes.{last_word}
 use Rattle.txn_types.specs.Tablet.{not_after, version_before, writes_at}
-use Rattle.run_machines.proofs.Basics.{eq_true, eq_cases, member_filter, filter_member}
+use Rattle.run_machines.proofs.Basics.{eq_true, eq_cases, member_filter, filter_member, sorted_from}
 use Rattle.run_values.specs.Laws.{Ranked, rank, IsUpTo, IsOn, InOrder, IsRankOf}
-use Rattle.run_values.proofs.Orders.{Sorts, sorted_from, sorted_into, sorted_order}
+use Rattle.run_values.proofs.Orders.{Sorts, sorted_into, sorted_order}
 
 -- the last word on a path, of writes that are ranked
 pub data IsLast (p : Parts) (S : Ranked → Type 0) (o : Option Written) : Type 0 where

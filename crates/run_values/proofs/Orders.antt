@@ -1,19 +1,8 @@
 -- A list that was sorted: its members, and their order.
 use Rattle.std.proofs.Common.{◌≡◌, Bool, true, false, List, [], ◌∷◌, refl, sym, subst, inl, inr, ◌⊎◌, if◌then◌else◌}
 use Rattle.txn_types.specs.Lists.{Member, inserted_by, sorted_by}
+use Rattle.run_machines.proofs.Basics.{inserted_from}
 use Rattle.run_values.specs.Laws.{InOrder}
-
-from_choice : {A : Type 0} (b : Bool) (le : A → A → Bool) (x y z : A) (ys : List A) → Member z (if b then x ∷ y ∷ ys else y ∷ inserted_by le x ys) → (Member z (inserted_by le x ys) → (z ≡ x) ⊎ Member z ys) → (z ≡ x) ⊎ Member z (y ∷ ys)
-from_choice true le x y z ys m more = m
-from_choice false le x y z ys m more = elim m [
-  | inl here ↦ inr (inl here)
-  | inr later ↦ elim (more later) [ inl new ↦ inl new | inr old ↦ inr (inr old) ]
-]
-
-inserted_from : {A : Type 0} (le : A → A → Bool) (x z : A) (ys : List A) → Member z (inserted_by le x ys) → (z ≡ x) ⊎ Member z ys
-unfolding inserted_by
-inserted_from le x z [] m = m
-inserted_from le x z (y ∷ ys) m = from_choice (le x y) le x y z ys m (inserted_from le x z ys)
 
 into_choice : {A : Type 0} (b : Bool) (le : A → A → Bool) (x y z : A) (ys : List A) → (z ≡ x) ⊎ Member z (y ∷ ys) → ((z ≡ x) ⊎ Member z ys → Member z (inserted_by le x ys)) → Member z (if b then x ∷ y ∷ ys else y ∷ inserted_by le x ys)
 into_choice true le x y z ys m more = m
@@ -26,14 +15,6 @@ inserted_into : {A : Type 0} (le : A → A → Bool) (x z : A) (ys : List A) →
 unfolding inserted_by
 inserted_into le x z [] m = m
 inserted_into le x z (y ∷ ys) m = into_choice (le x y) le x y z ys m (inserted_into le x z ys)
-
-pub sorted_from : {A : Type 0} (le : A → A → Bool) (z : A) (xs : List A) → Member z (sorted_by le xs) → Member z xs
-unfolding sorted_by
-sorted_from le z [] m = m
-sorted_from le z (x ∷ xs) m = elim (inserted_from le x z (sorted_by le xs) m) [
-  | inl here ↦ inl here
-  | inr later ↦ inr (sorted_from le z xs later)
-]
 
 pub sorted_into : {A : Type 0} (le : A → A → Bool) (z : A) (xs : List A) → Member z xs → Member z (sorted_by le xs)
 unfolding sorted_by

@@ -56,6 +56,9 @@ pub prefix_self : (p : Parts) → is_prefix p p ≡ true
 prefix_self [] = refl
 prefix_self (a ∷ p) = rw ((bytes_eq-Decides a a).1 refl) (prefix_self p)
 
+pub self_related : (p : Parts) → related p p ≡ true
+self_related p = rw (prefix_self p) refl
+
 pub prefix_both : (p q : Parts) → is_prefix p q ≡ true → is_prefix q p ≡ true → p ≡ q
 prefix_both [] [] one two = refl
 prefix_both [] (b ∷ q) one two = cc

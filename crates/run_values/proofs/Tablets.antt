@@ -1,5 +1,5 @@
 -- A read over several tablets: its rows are those of one list of writes.
-use Rattle.std.proofs.Common.{◌≡◌, ℕ, Bool, true, false, List, [], ◌∷◌, ◌++◌, Option, Some, map, filter, flat_map, nat_eq, nat_lt, refl, sym, ◌∙◌, ap, subst, inl, inr, ◌⊎◌, if◌then◌else◌}
+use Rattle.std.proofs.Common.{◌≡◌, ℕ, Bool, true, false, List, [], ◌∷◌, ◌++◌, Option, Some, map, filter, flat_map, nat_eq, refl, sym, ◌∙◌, ap, subst, inl, inr, ◌⊎◌, if◌then◌else◌}
 use Rattle.std.proofs.lemmas.Bool.{and_parts}
 use Rattle.std.proofs.lemmas.List.{append-nil}
 use Rattle.doc_path.specs.Path.{Parts, is_prefix}
@@ -14,32 +14,13 @@ use Rattle.txn_types.specs.Writes.{set_at, value, beneath}
 use Rattle.txn_types.specs.Tablet.{same_path}
 use Rattle.txn_types.specs.ReadProgram.{TabletRows, tablets_of, paths_on, row_of, rows_from, all_rows}
 use Rattle.txn_types.specs.Session.{row_under, with_rows, is_untouched}
-use Rattle.run_machines.proofs.Basics.{eq_refl, eq_true, member_map, member_filter}
+use Rattle.run_machines.proofs.Basics.{eq_refl, eq_true, member_map, member_filter, member_rising}
 use Rattle.run_values.specs.Laws.{IsAnswer, ReadsShowTheWrites}
 use Rattle.run_values.proofs.Paths.{prefix_self, prefix_both}
 use Rattle.run_values.proofs.Beneath.{beneath_same}
 use Rattle.run_values.proofs.Over.{rows_of_paths, rows_of_scan}
 
 -- ## each tablet of a read answered
-
-number_choice : (b d : Bool) (x n m : ℕ) (ms : List ℕ) → nat_eq n m ≡ d → (x ≡ n) ⊎ Member x (m ∷ ms) → ((x ≡ n) ⊎ Member x ms → Member x (with_number n ms)) →
-    Member x (if b then n ∷ m ∷ ms else (if d then m ∷ ms else m ∷ with_number n ms))
-number_choice true d x n m ms same is more = is
-number_choice false true x n m ms same is more = elim is [ inl new ↦ inl (new ∙ eq_true n m same) | inr old ↦ old ]
-number_choice false false x n m ms same is more = elim is [
-  | inl new ↦ inr (more (inl new))
-  | inr old ↦ elim old [ inl here ↦ inl here | inr later ↦ inr (more (inr later)) ]
-]
-
-member_number : (x n : ℕ) (ms : List ℕ) → (x ≡ n) ⊎ Member x ms → Member x (with_number n ms)
-unfolding with_number
-member_number x n [] is = is
-member_number x n (m ∷ ms) is = number_choice (nat_lt n m) (nat_eq n m) x n m ms refl is (member_number x n ms)
-
-member_rising : (x : ℕ) (ns : List ℕ) → Member x ns → Member x (rising ns)
-unfolding rising
-member_rising x [] m = m
-member_rising x (n ∷ ns) m = member_number x n (rising ns) (elim m [ inl here ↦ inl here | inr later ↦ inr (member_rising x ns later) ])
 
 -- what a tablet answered is found under its number
 pub record Answered (k : ℕ) (found : List TabletRows) : Type 0 where

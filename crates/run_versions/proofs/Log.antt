@@ -1,5 +1,5 @@
 -- The log of a tablet: each version was made by a write of what is committed, and each such write is there.
-use Rattle.std.proofs.Common.{◌≡◌, ℕ, Bool, true, false, not, List, [], ◌∷◌, Option, Some, map, filter, refl, sym, ◌∙◌, ap, subst, inl, inr, ◌⊎◌}
+use Rattle.std.proofs.Common.{◌≡◌, ℕ, true, not, List, [], ◌∷◌, Option, Some, map, filter, refl, sym, ◌∙◌, ap, subst, inl, inr, ◌⊎◌}
 use Rattle.txn_data.specs.declared.request.Request.TheVariants as request
 use Rattle.txn_data.specs.declared.reply.Reply.{Reply}
 use Rattle.txn_data.specs.declared.reply.Reply.TheVariants as reply
@@ -13,7 +13,7 @@ use Rattle.txn_types.specs.Tablet.{Intent, is_of, version_at, provisional_over, 
 use Rattle.run_machines.proofs.Basics.{eq_true, eq_cases, map_member, member_map, filter_member, member_filter, member_left, member_right}
 use Rattle.run_machines.proofs.Lands.{Grows, Same, More}
 use Rattle.run_fates.specs.Laws.{CommittedAt}
-use Rattle.run_kept.proofs.Landing.{Makes}
+use Rattle.run_kept.proofs.Landing.{Makes, not_of}
 use Rattle.run_kept.proofs.Kept.{intent_made}
 use Rattle.run_kept.proofs.Versions.{with_new}
 use Rattle.run_order.proofs.Singles.{with_either, withs_either}
@@ -117,10 +117,6 @@ version_stays h full l _ v apart fits (More g k grows) part m =
 
 abbrev Either : History → Version → List Version → List Intent → Type 0
 Either h v vs ps = Member v vs ⊎ IsWaiting h v ps
-
-not_of : (b : Bool) → b ≡ false → not b ≡ true
-not_of true is = cc
-not_of false is = refl
 
 -- what the two say of one log of a tablet
 pub record IsLog (h full : History) : Type 0 where

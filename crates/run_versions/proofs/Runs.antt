@@ -22,7 +22,7 @@ use Rattle.txn_types.specs.Run.{Run}
 use Rattle.run_machines.specs.Own.{StandsOver, ServesNext, landed}
 use Rattle.run_machines.proofs.Basics.{same_true, filter_member, member_filter}
 use Rattle.run_machines.proofs.Counted.{counted, counting_own, counts_served, counted_member, own_all, WasServed}
-use Rattle.run_machines.proofs.Owns.{serves_own, serves_at, stands_member, member_stands, member_own, own_member, member_counted, counted_counting}
+use Rattle.run_machines.proofs.Owns.{serves_own, serves_at, stands_member, member_stands, member_own, own_member, member_counted, counted_counting, run_until}
 use Rattle.run_machines.proofs.Landed.{logged, standing_landed}
 use Rattle.run_machines.proofs.Lands.{Grows, Same, More}
 use Rattle.run_owners.proofs.Founds.{standing_part}
@@ -30,11 +30,11 @@ use Rattle.run_fates.specs.Laws.{CommittedAt}
 use Rattle.run_fates.proofs.Life.{Life, Finished, life, life_grows, IsNotBefore}
 use Rattle.run_fates.proofs.Runs.{home_log, committed_finished, finished_committed, commits_once}
 use Rattle.run_owners.specs.Owner.{home_of}
-use Rattle.run_sessions.specs.Laws.{IsLogged}
-use Rattle.run_sessions.proofs.Tables.{Written, Accepted, Faulty, Turned, written}
+use Rattle.run_opened.proofs.Tables.{Written, Accepted, Faulty, Turned, written, took_of}
+use Rattle.run_opened.specs.Transaction.{IsLogged}
 use Rattle.run_sessions.proofs.Runs.{commits_above}
 use Rattle.run_heard.specs.Laws.{AppliesAt, CleansOf}
-use Rattle.run_heard.proofs.Runs.{run_until, applies_committed}
+use Rattle.run_heard.proofs.Runs.{applies_committed}
 use Rattle.run_kept.proofs.Kept.{grows_prefix, clean_never}
 use Rattle.run_order.proofs.Asked.{single_logged}
 use Rattle.run_versions.specs.Laws.{MakesVersion, IsMadeIn, IsFront, CountsIn, VersionsAreCommits, IntentsAreWrites, CommitsAreThere, VersionsStay, VersionsAreUnique}
@@ -147,11 +147,6 @@ front_run config h before run front = elim front [
   | inl same ↦ subst (λ (g : History). Run config g) (sym same) run
   | inr at ↦ run_until config h before at.0 run at.1
 ]
-
-took_of : (w : ℕ) (time : Option ℕ) (append : Append) → Written (reply.Written w) time append → append ≡ Took
-took_of w time append (Accepted v is at took) = took
-took_of w time append (Faulty is) = cc
-took_of w time append (Turned why is none nothing) = cc
 
 logs_single : (from : Actor) (x : ℕ) (path : Parts) (op : Op) (seen : ℕ) (fates : List FateOf) (r : Reply) (time : Option ℕ) (append : Append) → IsLogged append → was_logged (Serve from (request.Single x path op seen fates) r time append) ≡ true
 logs_single from x path op seen fates r time Nothing is = absurd is

@@ -15,27 +15,18 @@ use Rattle.run_machines.specs.Own.{StandsOver}
 use Rattle.run_machines.proofs.Basics.{eq_cases}
 use Rattle.run_machines.proofs.Owns.{Before, After, One, in_order, member_stands, stands_trans}
 use Rattle.run_clocks.proofs.Runs.{member_before}
-use Rattle.run_owners.specs.Owner.{Uses}
-use Rattle.run_owners.proofs.Runs.{ids_once}
-use Rattle.run_sessions.specs.Laws.{IsBeginOf}
+use Rattle.run_owners.proofs.Runs.{ids_once, IsSingleOf, single_uses}
+use Rattle.run_opened.specs.Transaction.{IsBeginOf}
 use Rattle.run_sessions.proofs.Runs.{writes_begun}
 use Rattle.run_order.specs.Laws.{IsCommittedWrite}
 use Rattle.run_order.proofs.Order.{in_commit_order}
 use Rattle.run_numbers.specs.Laws.{IsNumbered}
 use Rattle.run_numbers.proofs.Runs.{rise}
 use Rattle.run_numbers.proofs.Begins.{numbered_write, begin_uses}
-use Rattle.run_values.proofs.Paths.{prefix_self}
+use Rattle.run_values.proofs.Paths.{self_related}
 use Rattle.run_versions.specs.Laws.{MakesVersion, IsMadeIn}
 
 -- ## of one transaction
-
-abbrev pub IsSingleOf : ℕ → Event → Type 0
-IsSingleOf x (Serve from (request.Single y path op seen fates) r time append) = y ≡ x
-IsSingleOf x event = ⊥
-
-pub single_uses : (x : ℕ) (event : Event) → IsSingleOf x event → Uses x event
-single_uses x (Serve from (request.Single y path op seen fates) r time append) is = is
-single_uses x event is = absurd is
 
 begin_not_single : (x : ℕ) (event : Event) → IsBeginOf x event → IsSingleOf x event → ⊥
 begin_not_single x (Serve from (request.Begin y isolation priority) reply.Begun time append) begins single = single
@@ -100,9 +91,6 @@ by h v e (Serve from (request.Single x path op seen fates) r (Some c) append) ma
 }
 by h v e event makes = absurd makes
 
-itself : (p : Parts) → related p p ≡ true
-itself p = rw (prefix_self p) refl
-
 before_apart : (config : Config) (h before : History) (e f : Entry) (u v : Version) → Run config h → StandsOver f before h → Member e before → Member f h → e.actor ≡ f.actor →
     MakesVersion h u e e.event → MakesVersion h v f f.event → u.path ≡ v.path → u.at ≡ v.at → u.number ≡ v.number → ⊥
 before_apart config h before e f u v run stands earlier of_f at one two path time number =
@@ -112,7 +100,7 @@ before_apart config h before e f u v run stands earlier of_f at one two path tim
       | inl same ↦ apart_here config h before e f a.txn u.number run stands earlier of_f a.kind
           (subst (λ (x : ℕ). Kind x u.number f.event) (sym same.1) (subst (λ (n : ℕ). Kind b.txn n f.event) (sym number) b.kind))
       | inr other ↦
-          let low = (in_commit_order config h before e f a.txn b.txn u.at v.at u.path v.path run stands earlier at a.writes b.writes other.1 (subst (λ (p : Parts). related u.path p ≡ true) path (itself u.path))).0 in
+          let low = (in_commit_order config h before e f a.txn b.txn u.at v.at u.path v.path run stands earlier at a.writes b.writes other.1 (subst (λ (p : Parts). related u.path p ≡ true) path (self_related u.path))).0 in
           omega (arith, low, time)
     ]
 

@@ -1,7 +1,6 @@
 -- What was known before a read lies in its window.
-use Rattle.std.proofs.Common.{◌≡◌, ℕ, ◌+◌, ◌≤◌, max, Bool, true, ◌&&◌, [], ◌∷◌, Option, Some, None, refl, sym, subst, inl, inr, arith}
-use Rattle.std.proofs.lemmas.Bool.{and_parts, or_cases}
-use Rattle.std.specs.List.{list_any}
+use Rattle.std.proofs.Common.{◌≡◌, ℕ, ◌+◌, ◌≤◌, max, true, ◌&&◌, [], ◌∷◌, Option, Some, None, refl, sym, subst, inl, inr, arith}
+use Rattle.std.proofs.lemmas.Bool.{and_parts}
 use Rattle.hybrid_time.specs.Time.{micros_of, limit_time}
 use Rattle.doc_path.specs.Path.{Parts}
 use Rattle.txn_data.specs.declared.actor.Actor.TheVariants.{Session}
@@ -19,7 +18,7 @@ use Rattle.txn_types.specs.Committed.{committed}
 use Rattle.txn_types.specs.Reads.{Read, reads, origin, inside, is_commit_of, was_told, touches, paths_asked, known, own_reading, own_time, SkewHeld, ReadsUpTo}
 use Rattle.txn_types.specs.Run.{Run}
 use Rattle.run_machines.specs.Own.{StandsOver, time_of}
-use Rattle.run_machines.proofs.Basics.{eq_true, filter_member}
+use Rattle.run_machines.proofs.Basics.{eq_true, filter_member, any_member}
 use Rattle.run_machines.proofs.Owns.{member_stands}
 use Rattle.run_messages.proofs.Rules.{entry}
 use Rattle.run_fates.specs.Laws.{CommittedAt}
@@ -27,12 +26,12 @@ use Rattle.run_sessions.proofs.Runs.{commits_above}
 use Rattle.run_order.specs.Laws.{IsCommittedWrite}
 use Rattle.run_courses.specs.Course.{IsPart}
 use Rattle.run_courses.proofs.Parts.{part_trans, part_tail, part_member, stands_part}
-use Rattle.run_steady.specs.Laws.{TellsCommit}
 use Rattle.run_steady.proofs.FinalTimes.{ToldRead, read_told, read_facts, part_steps}
-use Rattle.run_steady.proofs.Commits.{commit_times}
+use Rattle.run_told_commits.proofs.Commits.{commit_times}
 use Rattle.run_steady.proofs.Steady.{part_origin}
 use Rattle.run_grounded.specs.Laws.{IsGrounded, EventIsGrounded}
 use Rattle.run_grounded.proofs.Runs.{times_grounded}
+use Rattle.run_told_commits.specs.Laws.{TellsCommit}
 use Rattle.run_windows.specs.Laws.{KnownCommitsAreInWindows, KnownWritesAreInWindows}
 
 -- ## the history before the origin of a read
@@ -53,13 +52,6 @@ origin_of config h read run m =
     }
 
 -- ## a known commit is told at a time that is grounded there
-
-any_entry : (test : Entry → Bool) (h : History) → list_any test h ≡ true → (e : Entry) × Member e h × (test e ≡ true)
-any_entry test [] is = cc
-any_entry test (e ∷ h) is = elim (or_cases (test e) (list_any test h) is) [
-  | inl here ↦ (e, inl refl, here)
-  | inr more ↦ let r = any_entry test h more in (r.0, inr r.1, r.2)
-]
 
 told_time : (h g : History) (event : Event) (x : CommittedTxn) → is_commit_of x.txn event ≡ true → TellsCommit h event → Member x (committed h) → EventIsGrounded g event → IsGrounded g x.at
 told_time h g (Tell number (told.Committed y at)) x is tells of grounded = subst (λ (t : ℕ). IsGrounded g t) (sym (tells x of (sym (eq_true y x.txn is)))) grounded
@@ -92,7 +84,7 @@ pub known_told : (config : Config) (h : History) (read : Read) (x : CommittedTxn
 known_told config h read x m =
     let f = filter_member (λ (y : CommittedTxn). touches (paths_asked config read) y && was_told (origin config read) y.txn) x (committed h) m in
     let parts = and_parts (touches (paths_asked config read) x) (was_told (origin config read) x.txn) f.1 in
-    let e = any_entry (λ (g : Entry). is_commit_of x.txn g.event) (origin config read) parts.1 in
+    let e = any_member (λ (g : Entry). is_commit_of x.txn g.event) (origin config read) parts.1 in
     let place = member_stands e.0 (origin config read) e.1 in
     record { of = f.0; touches_paths = parts.0; entry = e.0; before = place.0; stands = place.1; member = e.1; tells = e.2 }
 

@@ -1,6 +1,6 @@
 -- An open transaction keeps the window of its begin.
-use Rattle.std.proofs.Common.{◌≡◌, ℕ, ◌+◌, ◌%◌, ◌<◌, ◌≤◌, max, suc, Bool, true, false, List, [], ◌∷◌, Option, Some, None, nat_lt, nat_eq, length, refl, sym, ◌∙◌, ap, subst, inl, inr, if◌then◌else◌, arith}
-use Rattle.std.proofs.lemmas.Bool.{lt-ltb, le-ltb, cases_lt}
+use Rattle.std.proofs.Common.{◌≡◌, ℕ, ◌+◌, ◌%◌, max, Bool, false, List, [], ◌∷◌, Option, Some, None, nat_lt, nat_eq, length, refl, sym, ◌∙◌, ap, subst, inl, inr, if◌then◌else◌, arith}
+use Rattle.std.proofs.lemmas.Bool.{le-ltb, cases_lt}
 use Rattle.hybrid_time.specs.Time.{time_at, limit_time}
 use Rattle.txn_data.specs.declared.actor.Actor.{Actor}
 use Rattle.txn_data.specs.declared.actor.Actor.TheVariants.{Session}
@@ -21,22 +21,22 @@ use Rattle.txn_data.specs.declared.event.Event.TheVariants.{Start, Ask, Serve, H
 use Rattle.txn_data.specs.declared.entry.Entry.{Entry}
 use Rattle.txn_types.specs.Lists.{or_else, or_zero}
 use Rattle.txn_types.specs.History.{History}
-use Rattle.txn_types.specs.Program.{Program}
 use Rattle.txn_types.specs.Reads.{before_start, began_by, began_time, begin_of, reading_after, reading_by, met_since, own_window, origin, origin_under, inside, txn_of, Read}
 use Rattle.txn_types.specs.Session.{Keeps, Opened, opens, after_write, after_end, after_read, opened_after, window_end, txn_id}
 use Rattle.txn_types.specs.Run.{Run, Steps, mover_at, mover_after, kept_after, session_of}
 use Rattle.run_machines.proofs.Basics.{eq_cases, eq_refl, same_cases}
 use Rattle.run_owners.specs.Owner.{owner_of}
 use Rattle.run_owners.proofs.Serials.{id_owner, id_number}
-use Rattle.run_sessions.proofs.Open.{number_of}
+use Rattle.run_opened.proofs.Open.{number_of}
 use Rattle.run_messages.proofs.Rules.{entry}
 use Rattle.run_read_times.specs.Laws.{IsToldAt, IsBeginLine}
 use Rattle.run_read_times.proofs.Runs.{reads_up}
 use Rattle.run_apart.proofs.Steps.{or_none, start_keeps}
 use Rattle.run_apart.proofs.Rising.{sessions_read}
-use Rattle.run_steady.proofs.Follows.{Outer, Final}
-use Rattle.run_steady.proofs.Finals.{Timed, timed_at, can_final, ReadingIs, reading_is}
+use Rattle.run_steady.proofs.Follows.{Final}
+use Rattle.run_steady.proofs.Finals.{timed_at, can_final, ReadingIs, reading_is, unread}
 use Rattle.run_steady.proofs.FinalTimes.{read_facts, start_of_keeps}
+use Rattle.run_steady.proofs.Steady.{timed_begin, began_not}
 use Rattle.run_windows.specs.Laws.{WindowsAreOfBegins}
 
 -- the time of its session before its begin, and the end of the window that the begin took with a reading
@@ -68,14 +68,6 @@ began_still : (x : ℕ) (e : Entry) (h : History) → began_by x e.event ≡ Non
 unfolding began_time
 began_still x e h none = ap (λ (o : Option ℕ). or_else (began_time x h) o) none ∙ or_none (began_time x h)
 
-shorter : (k n : ℕ) → suc k ≤ n → k < n
-shorter k n le = omega (arith, le)
-
-unread : (a : Actor) (n : ℕ) (h : History) → length h ≤ n → reading_after a n h ≡ None
-unfolding reading_after
-unread a n [] le = refl
-unread a n (e ∷ h) le = let lt : nat_lt (length h) n ≡ true = lt-ltb (length h) n (shorter (length h) n le) in rw lt refl
-
 -- what was read stays the first
 read_still : (a : Actor) (n : ℕ) (e : Entry) (h : History) (r : ℕ) → reading_after a n h ≡ Some r → reading_after a n (e ∷ h) ≡ Some r
 unfolding reading_after
@@ -94,10 +86,6 @@ has_more config h i x e none has =
       took = subst (λ (l : History). reading_after (Session i) (length l) (e ∷ h) ≡ Some has.reading) (sym same) (read_still (Session i) (length (begin_of x.meta.txn h)) e h has.reading has.took);
       end_is = subst (λ (l : History). x.g ≡ end_with (mover_at config (Session i) l).keeps.last has.reading config.skew_us) (sym same) has.end_is;
     }
-
--- an id is told begun once
-began_not : (x y at : ℕ) → (y ≡ x → ⊥) → (if nat_eq y x then Some at else None) ≡ None
-began_not x y at other = elim (eq_cases y x) [ inl s ↦ absurd (other s.1) | inr s ↦ rw s.0 refl ]
 
 began_unused : (config : Config) (h : History) (a : Actor) (reading : Option ℕ) (number y at : ℕ) → Run config h → Run config (entry a reading (Tell number (told.Began y at)) ∷ h) → began_time y h ≡ None
 began_unused config h a reading number y at before run =
@@ -170,10 +158,6 @@ after_same config i s (command.Scan strict place) reading limits t x = after_rea
 after_same config i s line reading limits t x = (refl, refl)
 
 -- ## what a begin opens
-
-timed_begin : (s : Keeps) (own_reading : Option ℕ) (mets : List ℕ) (p : Program Told) (line : Option Command) → IsBeginLine line → Timed s own_reading mets p line → Outer s own_reading mets p
-timed_begin s o mets p (Some (command.Begin priority)) of timed = timed
-timed_begin s o mets p line of timed = absurd of
 
 begin_reading : (config : Config) (a : Actor) (h : History) (line : Option Command) → IsBeginLine line → ReadingIs config a h line → reading_after a (length (before_start a h)) h ≡ (mover_at config a h).reading
 begin_reading config a h (Some line) of is = is

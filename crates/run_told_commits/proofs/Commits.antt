@@ -1,10 +1,11 @@
--- Each commit is told at its time.
+-- Each commit is told at its time, and where one is told it is there.
 use Rattle.std.proofs.Common.{◌≡◌, ℕ, Bool, true, false, List, [], ◌∷◌, ◌++◌, Option, Some, None, Result, Ok, Err, max, nat_eq, refl, sym, ◌∙◌, ap, subst, inl, inr, ◌⊎◌, if◌then◌else◌}
 use Rattle.hybrid_time.specs.declared.time_refusal.TimeRefusal.{TimeRefusal}
 use Rattle.doc_path.specs.Path.{Parts}
 use Rattle.txn_data.specs.declared.actor.Actor.{Actor}
 use Rattle.txn_data.specs.declared.actor.Actor.TheVariants.{Tablet, Status, Session, Applier}
 use Rattle.txn_data.specs.declared.append.Append.{Append}
+use Rattle.txn_data.specs.declared.append.Append.TheVariants as appended
 use Rattle.txn_data.specs.declared.command.Command.{Command}
 use Rattle.txn_data.specs.declared.committed_txn.CommittedTxn.{CommittedTxn}
 use Rattle.txn_data.specs.declared.config.Config.{Config}
@@ -28,21 +29,22 @@ use Rattle.txn_types.specs.Reads.{before_start}
 use Rattle.txn_types.specs.Session.{Keeps}
 use Rattle.txn_types.specs.Run.{Run, Serves, mover_at}
 use Rattle.run_machines.specs.Own.{ServesNext, StandsOver}
-use Rattle.run_machines.proofs.Basics.{eq_true, member_cases, flat_member, member_flat, filter_member}
-use Rattle.run_machines.proofs.Counted.{own_all, counting_own, counted_member}
+use Rattle.run_machines.proofs.Basics.{eq_true, member_cases, flat_member, member_flat, filter_member, member_left, member_right}
+use Rattle.run_machines.proofs.Counted.{own_all, counting_own}
 use Rattle.run_machines.proofs.Landed.{standing_landed}
-use Rattle.run_machines.proofs.Owns.{serves_own, serves_at, member_stands, stands_member, own_member, member_counted, counted_counting, in_order, Before, After, One}
+use Rattle.run_machines.proofs.Owns.{serves_own, serves_at, member_stands, stands_member, counted_counting, in_order, Before, After, One, counting_part}
 use Rattle.run_clocks.proofs.Runs.{member_before}
 use Rattle.run_messages.proofs.Rules.{entry}
 use Rattle.run_owners.specs.Owner.{home_of, Uses, IsOfTable, IsHomedAt}
-use Rattle.run_owners.proofs.Runs.{requests_homed, ids_once}
+use Rattle.run_owners.proofs.Runs.{requests_homed, ids_once, IsSingleOf, single_uses}
 use Rattle.run_fates.specs.Laws.{CommittedAt, Tells}
 use Rattle.run_fates.proofs.Life.{Life, Fresh, Open, Finished, Dead, begun, finished, died, life_after, life}
-use Rattle.run_fates.proofs.Runs.{home_log, committed_finished, commits_once, told_committed}
+use Rattle.run_fates.proofs.Runs.{home_log, committed_finished, commits_once, told_committed, taken_counts}
+use Rattle.run_fates.proofs.Told.{WasTaken}
 use Rattle.run_courses.specs.Laws.{CameAbout}
 use Rattle.run_courses.proofs.Courses.{told_came_about}
-use Rattle.run_steady.specs.Laws.{TellsCommit, CommitTimesAreTold}
-use Rattle.run_steady.proofs.Says.{ToldBy, WasTold, program_came}
+use Rattle.run_told_commits.proofs.Says.{ToldBy, WasTold, program_came}
+use Rattle.run_told_commits.specs.Laws.{TellsCommit, CommitTimesAreTold, TellsOfCommit, ToldCommitsAreThere}
 
 -- ## what is committed was begun
 
@@ -88,9 +90,6 @@ begun_in x (f ∷ l) = elim (begun_in x l) [
   | inr old ↦ inr (old.0, inr old.1, old.2)
 ]
 
-counting_part : (e : Entry) (h : History) → Member e (counting h) → Member e h
-counting_part e h m = own_member e e.actor h (counted_member e false (own e.actor h) (member_counted e e.actor h refl m))
-
 home_member : (config : Config) (x : ℕ) (h : History) (e : Entry) → Run config h → Member e (home_log config x h) → Member e h
 home_member config x h e run m =
     let a = Status (home_of config x) in
@@ -107,17 +106,9 @@ committed_begun config h x c run at = elim (begun_in x (home_log config x h)) [
 
 -- ## an id is of a transaction or of a single write
 
-abbrev pub IsSingleOf : ℕ → Event → Type 0
-IsSingleOf x (Serve from (request.Single y path o seen fates) r time append) = y ≡ x
-IsSingleOf x event = ⊥
-
 pub begins_uses : (x : ℕ) (event : Event) → Begins x event → Uses x event
 begins_uses x (Serve from (request.Begin y isolation priority) r time append) is = is
 begins_uses x event is = absurd is
-
-pub single_uses : (x : ℕ) (event : Event) → IsSingleOf x event → Uses x event
-single_uses x (Serve from (request.Single y path o seen fates) r time append) is = is
-single_uses x event is = absurd is
 
 pub not_both : (x : ℕ) (event : Event) → Begins x event → IsSingleOf x event → ⊥
 not_both x (Serve from (request.Begin y isolation priority) r time append) one two = two
@@ -140,10 +131,10 @@ never_both config h x c e run at m single =
 -- ## the time of a single write that is answered
 
 abbrev DoneAt : ℕ → Answer → Type 0
-DoneAt at answer = reply.SingleDone at ≡ answer.reply → answer.time ≡ Some at
+DoneAt at answer = reply.SingleDone at ≡ answer.reply → (answer.time ≡ Some at) × (answer.append ≡ appended.Took)
 
 done_logged : (fails : Bool) (at t : ℕ) → DoneAt at (logged fails true (Some t) (reply.SingleDone t))
-done_logged false at t is = let same : at ≡ t = cc in ap Some (sym same)
+done_logged false at t is = let same : at ≡ t = cc in (ap Some (sym same), refl)
 done_logged true at t is = cc
 
 done_given : (at lease : ℕ) (end : Option ℕ) (fails : Bool) (time : Result ℕ TimeRefusal) → DoneAt at (timed_answer lease end fails true time (λ c. reply.SingleDone c))
@@ -160,12 +151,13 @@ done_standing None (Some other) at up done is = cc
 done_standing None None at up done is = done is
 
 done_time : (lease k : ℕ) (o : History) (reading : Option ℕ) (x : ℕ) (path : Parts) (w : Op) (seen : ℕ) (fates : List FateOf) (at : ℕ) (time : Option ℕ) (append : Append) →
-    Serves lease (Tablet k) o reading (request.Single x path w seen fates) (reply.SingleDone at) time append → time ≡ Some at
+    Serves lease (Tablet k) o reading (request.Single x path w seen fates) (reply.SingleDone at) time append → (time ≡ Some at) × (append ≡ appended.Took)
 done_time lease k o reading x path w seen fates at time append served =
     let floor = max seen (greatest_fate fates fates) in
-    served.took ∙ done_standing (down_since o) (conflict x path fates (provisional o)) at (timed lease o served.fails Own floor (or_zero reading) true (λ c. reply.SingleDone c))
+    let done = done_standing (down_since o) (conflict x path fates (provisional o)) at (timed lease o served.fails Own floor (or_zero reading) true (λ c. reply.SingleDone c))
     (done_chosen (holds (lease_end lease o) (has_given o) (or_zero reading)) (refusal.LeaseHeld (or_zero (lease_end lease o))) at lease (lease_end lease o) served.fails (clock_time Own (last_time o) floor (or_zero reading)))
-    served.replied
+    served.replied in
+    (served.took ∙ done.0, served.logged ∙ done.1)
 
 -- ## what is told of a commit
 
@@ -187,13 +179,13 @@ single_is : (x : CommittedTxn) (event : Event) → Member x (single_by event) �
 single_is x (Serve from (request.Single y path o seen fates) r (Some c) append) m = elim m [ inl is ↦ sym (ap (λ (z : CommittedTxn). z.txn) is) | inr none ↦ absurd none ]
 single_is x event m = absurd m
 
--- the entry took this time
-abbrev Took : ℕ → Event → Type 0
-Took t (Serve from asked r time append) = time ≡ Some t
-Took t event = ⊥
+-- the entry took this time, and the log took what it had to log
+abbrev TookAt : ℕ → Event → Type 0
+TookAt t (Serve from asked r time append) = (time ≡ Some t) × (append ≡ appended.Took)
+TookAt t event = ⊥
 
-single_time : (x : CommittedTxn) (event : Event) (at : ℕ) → Member x (single_by event) → Took at event → x.at ≡ at
-single_time x (Serve from (request.Single y path o seen fates) r (Some c) append) at m took = elim m [ inl same ↦ ap (λ (v : CommittedTxn). v.at) same ∙ some_same c at took | inr none ↦ absurd none ]
+single_time : (x : CommittedTxn) (event : Event) (at : ℕ) → Member x (single_by event) → TookAt at event → x.at ≡ at
+single_time x (Serve from (request.Single y path o seen fates) r (Some c) append) at m took = elim m [ inl same ↦ ap (λ (v : CommittedTxn). v.at) same ∙ some_same c at took.0 | inr none ↦ absurd none ]
   where
     some_same : (c at : ℕ) → Some c ≡ Some at → c ≡ at
     some_same c at is = cc
@@ -207,17 +199,22 @@ tells_fate y at (Serve from (request.Single x path o seen fates) (reply.SingleDo
 tells_fate y at event is = absurd is
 
 tablet_took : (lease : ℕ) (a : Actor) (o : History) (reading : Option ℕ) (x : ℕ) (path : Parts) (w : Op) (seen : ℕ) (fates : List FateOf) (at : ℕ) (time : Option ℕ) (append : Append) → IsOfTable a (request.Single x path w seen fates) →
-    Serves lease a o reading (request.Single x path w seen fates) (reply.SingleDone at) time append → time ≡ Some at
+    Serves lease a o reading (request.Single x path w seen fates) (reply.SingleDone at) time append → (time ≡ Some at) × (append ≡ appended.Took)
 tablet_took lease (Tablet k) o reading x path w seen fates at time append of served = done_time lease k o reading x path w seen fates at time append served
 tablet_took lease (Status j) o reading x path w seen fates at time append of served = absurd of
 tablet_took lease (Session j) o reading x path w seen fates at time append of served = absurd of
 tablet_took lease (Applier j) o reading x path w seen fates at time append of served = absurd of
 
-single_took : (config : Config) (a : Actor) (o : History) (reading : Option ℕ) (y at : ℕ) (event : Event) → IsHomedAt config a event → ServesNext config.lease_us a o reading event → ToldBy y at event → IsSingleOf y event → Took at event
+single_took : (config : Config) (a : Actor) (o : History) (reading : Option ℕ) (y at : ℕ) (event : Event) → IsHomedAt config a event → ServesNext config.lease_us a o reading event → ToldBy y at event → IsSingleOf y event → TookAt at event
 single_took config a o reading y at (Serve from (request.Single x path w seen fates) (reply.SingleDone c) time append) homed served told is =
-    subst (λ (t : ℕ). time ≡ Some t) told.1 (tablet_took config.lease_us a o reading x path w seen fates c time append homed.1 served)
+    subst (λ (t : ℕ). (time ≡ Some t) × (append ≡ appended.Took)) told.1 (tablet_took config.lease_us a o reading x path w seen fates c time append homed.1 served)
 single_took config a o reading y at (Serve from (request.Single x path w seen fates) r time append) homed served told is = absurd told
 single_took config a o reading y at event homed served told is = absurd is
+
+told_single : (config : Config) (h : History) (y at : ℕ) (e : Entry) → Run config h → Member e h → ToldBy y at e.event → IsSingleOf y e.event → TookAt at e.event
+told_single config h y at e run m told one =
+    let place = member_stands e h m in
+    single_took config e.actor (own e.actor place.0) e.reading y at e.event (requests_homed config h e run m) (serves_at config e place.0 h run.1 place.1) told one
 
 told_time : (config : Config) (h : History) (y at : ℕ) (x : CommittedTxn) → Run config h → WasTold h y at → Member x (committed h) → x.txn ≡ y → x.at ≡ at
 told_time config h y at x run was m same = elim (tells_fate y at was.0.event was.2) [
@@ -230,14 +227,48 @@ told_time config h y at x run was m same = elim (tells_fate y at was.0.event was
   | inr one ↦ elim (kind_of h x m) [
     | Snapshot mine ↦ absurd (never_both config h y x.at was.0 run (subst (λ (z : ℕ). CommittedAt h z x.at) same mine) was.1 one)
     | Single e in_h counts single ↦
-        let place = member_stands was.0 h was.1 in
-        let took = single_took config was.0.actor (own was.0.actor place.0) was.0.reading y at was.0.event (requests_homed config h was.0 run was.1) (serves_at config was.0 place.0 h run.1 place.1) was.2 one in
+        let took = told_single config h y at was.0 run was.1 was.2 one in
         let is : was.0 ≡ e = one_user config h was.0 e y run was.1 in_h (single_uses y was.0.event one) (single_uses y e.event (subst (λ (z : ℕ). IsSingleOf z e.event) same (single_is x e.event single))) in
-        single_time x e.event at single (subst (λ (g : Entry). Took at g.event) is took)
+        single_time x e.event at single (subst (λ (g : Entry). TookAt at g.event) is took)
   ]
 ]
 
--- ## the law
+-- ## and it is there
+
+snapshot_there : (h : History) (y at : ℕ) → CommittedAt h y at → (x : CommittedTxn) × Member x (committed h) × (x.txn ≡ y) × (x.at ≡ at)
+unfolding committed committed_snapshots
+snapshot_there h y at here =
+    let e = flat_member (λ (f : Entry). snapshot_by h f.event) here.0 (counting h) here.1 in
+    (here.0, member_flat (λ (f : Entry). snapshot_by h f.event ++ single_by f.event) e.0 here.0 (counting h) e.1 (member_left here.0 (snapshot_by h e.0.event) (single_by e.0.event) e.2), here.2, here.3)
+
+single_made : (y at : ℕ) (event : Event) → IsSingleOf y event → TookAt at event → (x : CommittedTxn) × Member x (single_by event) × (x.txn ≡ y) × (x.at ≡ at)
+single_made y at (Serve from (request.Single z path o seen fates) r (Some c) append) one took =
+    (record { txn = z; at = c; writes = record { path = path; op = o } ∷ [] }, inl refl, one, let is = took.0 in cc)
+single_made y at (Serve from (request.Single z path o seen fates) r None append) one took = let is = took.0 in cc
+single_made y at event one took = absurd one
+
+was_taken : (at : ℕ) (event : Event) → TookAt at event → WasTaken event
+was_taken at (Serve from asked r time append) took = subst (λ (a : Append). WasTaken (Serve from asked r time a)) (sym took.1) tt
+was_taken at event took = absurd took
+
+single_there : (h : History) (y at : ℕ) (e : Entry) → Member e h → IsSingleOf y e.event → TookAt at e.event → (x : CommittedTxn) × Member x (committed h) × (x.txn ≡ y) × (x.at ≡ at)
+unfolding committed
+single_there h y at e m one took =
+    let x = single_made y at e.event one took in (
+      x.0,
+      member_flat (λ (f : Entry). snapshot_by h f.event ++ single_by f.event) e x.0 (counting h) (taken_counts e h m (was_taken at e.event took))
+          (member_right x.0 (snapshot_by h e.event) (single_by e.event) x.1),
+      x.2,
+      x.3,
+    )
+
+commit_there : (config : Config) (h : History) (y at : ℕ) → Run config h → WasTold h y at → (x : CommittedTxn) × Member x (committed h) × (x.txn ≡ y) × (x.at ≡ at)
+commit_there config h y at run was = elim (tells_fate y at was.0.event was.2) [
+  | inl tells ↦ snapshot_there h y at (told_committed config h was.0 y at run was.1 tells)
+  | inr one ↦ single_there h y at was.0 was.1 one (told_single config h y at was.0 run was.1 was.2 one)
+]
+
+-- ## the laws
 
 pub line_came : (config : Config) (m : Actor) (g low : History) (s : Keeps) (reading : Option ℕ) (line : Option Command) (y at : ℕ) → CameAbout config m g low s reading line (told.Committed y at) → WasTold g y at
 line_came config m g low s reading None y at came = absurd came
@@ -252,15 +283,27 @@ told_before f before h y at stands was = elim was.1 [
   | inr more ↦ (was.0, member_before was.0 f before h more stands, was.2)
 ]
 
-told_event : (config : Config) (h before : History) (m : Actor) (reading : Option ℕ) (event : Event) → Run config h → StandsOver (entry m reading event) before h → TellsCommit h event
-told_event config h before m reading (Tell number (told.Committed y at)) run stands =
+was_told : (config : Config) (h before : History) (m : Actor) (reading : Option ℕ) (number y at : ℕ) → Run config h → StandsOver (entry m reading (Tell number (told.Committed y at))) before h → WasTold h y at
+was_told config h before m reading number y at run stands =
     let e = entry m reading (Tell number (told.Committed y at)) in
     let came = told_came_about config h before e run stands in
-    let was = told_before e before h y at stands (line_came config m (e ∷ before) (before_start m before) (mover_at config m before).keeps (mover_at config m before).reading (mover_at config m before).line y at came) in
-    λ x of same. told_time config h y at x run was of same
-told_event config h before m reading event run stands = tt
+    let s = mover_at config m before in
+    told_before e before h y at stands (line_came config m (e ∷ before) (before_start m before) s.keeps s.reading s.line y at came)
+
+time_event : (config : Config) (h before : History) (m : Actor) (reading : Option ℕ) (event : Event) → Run config h → StandsOver (entry m reading event) before h → TellsCommit h event
+time_event config h before m reading (Tell number (told.Committed y at)) run stands = λ x of same. told_time config h y at x run (was_told config h before m reading number y at run stands) of same
+time_event config h before m reading event run stands = tt
 
 pub commit_times : CommitTimesAreTold
 commit_times config h e run m =
     let place = member_stands e h m in
-    told_event config h place.0 e.actor e.reading e.event run place.1
+    time_event config h place.0 e.actor e.reading e.event run place.1
+
+there_event : (config : Config) (h before : History) (m : Actor) (reading : Option ℕ) (event : Event) → Run config h → StandsOver (entry m reading event) before h → TellsOfCommit h event
+there_event config h before m reading (Tell number (told.Committed y at)) run stands = commit_there config h y at run (was_told config h before m reading number y at run stands)
+there_event config h before m reading event run stands = tt
+
+pub told_there : ToldCommitsAreThere
+told_there config h e run m =
+    let place = member_stands e h m in
+    there_event config h place.0 e.actor e.reading e.event run place.1

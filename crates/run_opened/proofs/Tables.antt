@@ -1,5 +1,5 @@
 -- What a tablet answers to a write, and a status tablet to a commit and an abort.
-use Rattle.std.proofs.Common.{◌≡◌, ℕ, Bool, true, false, List, Option, Some, None, Result, Ok, Err, refl, sym, ◌∙◌, ap, subst, if◌then◌else◌}
+use Rattle.std.proofs.Common.{◌≡◌, ℕ, Bool, true, false, List, Option, Some, None, Result, Ok, Err, refl, sym, ◌∙◌, ap, subst, if◌then◌else◌, inl, inr, ◌⊎◌}
 use Rattle.hybrid_time.specs.declared.time_refusal.TimeRefusal.{TimeRefusal}
 use Rattle.doc_path.specs.Path.{Parts}
 use Rattle.txn_data.specs.declared.actor.Actor.{Actor}
@@ -20,6 +20,7 @@ use Rattle.txn_types.specs.Clock.{Answer, refused, logged, timed_answer, time_re
 use Rattle.txn_types.specs.Tablet.{tablet_standing, write_answer, provisional, versions, conflict, greatest_above, related_commits}
 use Rattle.txn_types.specs.Status.{Record, NoRecord, Pending, Committed, AbortedBy, record_of, status_up, status_standing, commit_answer, abort_answer}
 use Rattle.txn_types.specs.Run.{Serves, machine_answer}
+use Rattle.run_opened.specs.Laws.{IsFault, IsTurned, IsAccepted, ClosesCommit, ClosesAbort}
 
 -- ## a write
 
@@ -76,29 +77,32 @@ written lease a o reading meta number path op read seen fates r time append serv
       | Turns why is ↦ Turned why (served.replied ∙ ap (λ (x : Answer). x.reply) is) (served.took ∙ ap (λ (x : Answer). x.time) is) (served.logged ∙ ap (λ (x : Answer). x.append) is)
     ]
 
+pub took_of : (w : ℕ) (time : Option ℕ) (append : Append) → Written (reply.Written w) time append → append ≡ Took
+took_of w time append (Accepted v is at took) = took
+took_of w time append (Faulty is) = cc
+took_of w time append (Turned why is none nothing) = cc
+
+-- the same in the words of the law
+pub write_is : (lease : ℕ) (a : Actor) (o : History) (reading : Option ℕ) (meta : Meta) (number : ℕ) (path : Parts) (op : Op) (read seen : ℕ) (fates : List FateOf) (r : Reply) (time : Option ℕ) (append : Append) →
+    Serves lease a o reading (request.Write meta number path op read seen fates) r time append → IsAccepted r time append ⊎ IsFault r append ⊎ (IsTurned r append × (time ≡ None))
+write_is lease a o reading meta number path op read seen fates r time append served =
+    elim (write_machine lease a o served.fails (or_zero reading) meta number path op read seen fates) [
+      | Accepts w is ↦ inl (w, served.replied ∙ ap (λ (x : Answer). x.reply) is, served.took ∙ ap (λ (x : Answer). x.time) is, served.logged ∙ ap (λ (x : Answer). x.append) is)
+      | Faults w is ↦ inr (inl (served.replied ∙ ap (λ (x : Answer). x.reply) is, served.logged ∙ ap (λ (x : Answer). x.append) is))
+      | Turns why is ↦ inr (inr ((why, served.replied ∙ ap (λ (x : Answer). x.reply) is, served.logged ∙ ap (λ (x : Answer). x.append) is), served.took ∙ ap (λ (x : Answer). x.time) is))
+    ]
+
 -- ## a commit and an abort
-
--- a reply that closes a transaction
-abbrev pub ClosesCommit : Reply → Type 0
-ClosesCommit (reply.Committed c) = Unit {0}
-ClosesCommit (reply.AbortedBy by) = Unit {0}
-ClosesCommit reply.Gone = Unit {0}
-ClosesCommit r = ⊥
-
-abbrev pub ClosesAbort : Reply → Type 0
-ClosesAbort (reply.Committed c) = Unit {0}
-ClosesAbort reply.Ended = Unit {0}
-ClosesAbort r = ⊥
 
 pub data EndAnswer (C : Reply → Type 0) (answer : Answer) : Type 0 where
   Closes : C answer.reply → EndAnswer C answer
-  Breaks : answer.reply ≡ reply.Refused refusal.LogFault → EndAnswer C answer
+  Breaks : answer.reply ≡ reply.Refused refusal.LogFault → answer.append ≡ Failed → EndAnswer C answer
   Stands : (why : Refusal) → answer ≡ refused why → EndAnswer C answer
 
 commit_given : (lease : ℕ) (end : Option ℕ) (fails : Bool) (time : Result ℕ TimeRefusal) → EndAnswer ClosesCommit (timed_answer lease end fails true time (λ c. reply.Committed c))
 commit_given lease end fails (Err e) = Stands (time_refused e) refl
 commit_given lease end false (Ok c) = Closes tt
-commit_given lease end true (Ok c) = Breaks refl
+commit_given lease end true (Ok c) = Breaks refl refl
 
 commit_chosen : (b : Bool) (at lease : ℕ) (end : Option ℕ) (fails : Bool) (time : Result ℕ TimeRefusal) →
     EndAnswer ClosesCommit (if b then refused (refusal.LeaseHeld at) else timed_answer lease end fails true time (λ c. reply.Committed c))
@@ -113,7 +117,7 @@ commit_by NoRecord done is = Closes tt
 
 abort_logged : (fails : Bool) → EndAnswer ClosesAbort (logged fails true None reply.Ended)
 abort_logged false = Closes tt
-abort_logged true = Breaks refl
+abort_logged true = Breaks refl refl
 
 abort_by : (fails : Bool) (r : Record) → EndAnswer ClosesAbort (abort_answer fails r)
 abort_by fails (Committed c tablets) = Closes tt
@@ -152,7 +156,7 @@ pub data Ended (C : Reply → Type 0) (r : Reply) (append : Append) : Type 0 whe
 
 ended_by : (C : Reply → Type 0) (answer : Answer) (r : Reply) (append : Append) → r ≡ answer.reply → append ≡ answer.append → EndAnswer C answer → Ended C r append
 ended_by C answer r append replied logs (Closes c) = Closed (subst (λ (q : Reply). C q) (sym replied) c)
-ended_by C answer r append replied logs (Breaks is) = Broken (replied ∙ is)
+ended_by C answer r append replied logs (Breaks is failed) = Broken (replied ∙ is)
 ended_by C answer r append replied logs (Stands why is) = Standing why (replied ∙ ap (λ (x : Answer). x.reply) is) (logs ∙ ap (λ (x : Answer). x.append) is)
 
 pub commit_ended : (lease : ℕ) (a : Actor) (o : History) (reading : Option ℕ) (x floor : ℕ) (tablets : List ℕ) (r : Reply) (time : Option ℕ) (append : Append) →
@@ -164,3 +168,19 @@ pub abort_ended : (lease : ℕ) (a : Actor) (o : History) (reading : Option ℕ)
     Serves lease a o reading (request.Abort x) r time append → Ended ClosesAbort r append
 abort_ended lease a o reading x r time append served =
     ended_by ClosesAbort _ r append served.replied served.logged (abort_machine lease a o served.fails (or_zero reading) x)
+
+-- the same in the words of the law
+end_is : (C : Reply → Type 0) (answer : Answer) (r : Reply) (append : Append) → r ≡ answer.reply → append ≡ answer.append → EndAnswer C answer → C r ⊎ IsFault r append ⊎ IsTurned r append
+end_is C answer r append replied logs (Closes c) = inl (subst (λ (q : Reply). C q) (sym replied) c)
+end_is C answer r append replied logs (Breaks is failed) = inr (inl (replied ∙ is, logs ∙ failed))
+end_is C answer r append replied logs (Stands why is) = inr (inr (why, replied ∙ ap (λ (x : Answer). x.reply) is, logs ∙ ap (λ (x : Answer). x.append) is))
+
+pub commit_is : (lease : ℕ) (a : Actor) (o : History) (reading : Option ℕ) (x floor : ℕ) (tablets : List ℕ) (r : Reply) (time : Option ℕ) (append : Append) →
+    Serves lease a o reading (request.Commit x floor tablets) r time append → ClosesCommit r ⊎ IsFault r append ⊎ IsTurned r append
+commit_is lease a o reading x floor tablets r time append served =
+    end_is ClosesCommit _ r append served.replied served.logged (commit_machine lease a o served.fails (or_zero reading) x floor tablets)
+
+pub abort_is : (lease : ℕ) (a : Actor) (o : History) (reading : Option ℕ) (x : ℕ) (r : Reply) (time : Option ℕ) (append : Append) →
+    Serves lease a o reading (request.Abort x) r time append → ClosesAbort r ⊎ IsFault r append ⊎ IsTurned r append
+abort_is lease a o reading x r time append served =
+    end_is ClosesAbort _ r append served.replied served.logged (abort_machine lease a o served.fails (or_zero reading) x)

@@ -19,7 +19,7 @@ use Rattle.run_messages.proofs.Rules.{Rules, IsFor, IsFine, Later, lasts, entry}
 use Rattle.run_owners.specs.Owner.{owner_of, IsOwner, IsHomedAt}
 use Rattle.run_owners.proofs.Programs.{MetaHomed}
 use Rattle.run_owners.proofs.Runs.{requests_homed}
-use Rattle.run_sessions.specs.Laws.{Begun, IsEndOf, IsOn, IsCoveredBy}
+use Rattle.run_opened.specs.Transaction.{Begun, IsEndOf, IsOn, IsCoveredBy}
 
 abbrev pub AllCovered : ℕ → ℕ → List ℕ → History → Type 0
 AllCovered x floor tablets h = (e : Entry) → Member e h → IsCoveredBy x floor tablets e.actor e.event
