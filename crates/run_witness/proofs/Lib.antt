@@ -1,0 +1,5 @@
+pub mod Allowed
+pub mod Entries
+pub mod Branches
+pub mod Wrong
+pub mod Shows

@@ -1,0 +1,4 @@
+pub mod Witness
+pub mod Shows
+pub mod Branches
+pub mod Wrong
