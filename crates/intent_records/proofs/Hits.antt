@@ -78,7 +78,7 @@ hit-filter t f same own_txn until x (e ∷ es) =
 abbrev pub found : (Parts → Bool) → Option ℕ → Option ℕ → ℕ → Intent → Bool
 found on own_txn until x p = (on p.path && asks own_txn until (txn_of p) p.wrote) && nat_eq (txn_of p) x
 
-any-all : {A : Type 0} (P : A → Type 0) (f : A → Bool) (xs : List A) → All P xs → list_any f xs ≡ true → (x : A) × (P x × (f x ≡ true))
+pub any-all : {A : Type 0} (P : A → Type 0) (f : A → Bool) (xs : List A) → All P xs → list_any f xs ≡ true → (x : A) × (P x × (f x ≡ true))
 any-all P f [] each h = cc
 any-all {A} P f (x ∷ xs) each h = by (any-all P f xs (All-tail P x xs each)) (f x) refl h
   where
@@ -86,7 +86,7 @@ any-all {A} P f (x ∷ xs) each h = by (any-all P f xs (All-tail P x xs each)) (
     by rest true is h = (x, (each 0 x (omega arith), is))
     by rest false is h = rest h
 
-same_bool : (a b : Bool) → (a ≡ true → b ≡ true) → (b ≡ true → a ≡ true) → a ≡ b
+pub same_bool : (a b : Bool) → (a ≡ true → b ≡ true) → (b ≡ true → a ≡ true) → a ≡ b
 same_bool true b f g = sym (f refl)
 same_bool false true f g = g refl
 same_bool false false f g = refl
@@ -128,7 +128,7 @@ hit-held s ps holds on own_txn until x = same_bool _ _ there back
         list_any_at (λ (e : RecordKey × PrimaryRecord). (on e.0.path && asks own_txn until e.0.txn e.1.wrote) && nat_eq e.0.txn x) s.records.entries in_map.0 (k, primary_of p) in_map.1
         (ap (λ (e : RecordKey × PrimaryRecord). (on e.0.path && asks own_txn until e.0.txn e.1.wrote) && nat_eq e.0.txn x) in_map.2 ∙ at.1.1)
 
-has_parts : (p : Parts) → 1 ≤ length p → some_parts p ≡ true
+pub has_parts : (p : Parts) → 1 ≤ length p → some_parts p ≡ true
 has_parts [] h = absurd (omega arith)
 has_parts (a ∷ p) h = refl
 
@@ -148,7 +148,7 @@ hit-others_on s ps holds x path y =
     by true false false d h = refl
     by false b c d h = cc
 
-near_any-related : (paths : List Parts) (q : Parts) → some_parts q ≡ true → near_any paths q ≡ list_any (related q) paths
+pub near_any-related : (paths : List Parts) (q : Parts) → some_parts q ≡ true → near_any paths q ≡ list_any (related q) paths
 near_any-related [] q h = refl
 near_any-related (p ∷ paths) q h =
     ap (λ b. (b && related q p) || near_any paths q) h ∙ ap (λ b. related q p || b) (near_any-related paths q h)

@@ -7,3 +7,5 @@ pub mod Positions
 pub mod Changes
 pub mod Reading
 pub mod Listing
+pub mod Places
+pub mod Picked

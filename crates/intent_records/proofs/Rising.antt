@@ -8,11 +8,11 @@ use Rattle.std.proofs.lemmas.Bool.Decides.{nat_tests}
 use Rattle.txn_types.specs.Lists.{with_number, rising, has_number}
 
 -- each of these numbers is above n
-abbrev AreAbove : ℕ → List ℕ → Type 0
+abbrev pub AreAbove : ℕ → List ℕ → Type 0
 AreAbove n [] = Unit {0}
 AreAbove n (m ∷ ms) = (n < m) × AreAbove n ms
 
-abbrev Rises : List ℕ → Type 0
+abbrev pub Rises : List ℕ → Type 0
 Rises [] = Unit {0}
 Rises (n ∷ ns) = AreAbove n ns × Rises ns
 
@@ -75,7 +75,7 @@ unfolding rising
 has_number-rising x [] = refl
 has_number-rising x (n ∷ ns) = has_number-with x n (rising ns) ∙ ap (λ b. nat_eq x n || b) (has_number-rising x ns)
 
-above-none : (n : ℕ) (ms : List ℕ) → AreAbove n ms → has_number n ms ≡ false
+pub above-none : (n : ℕ) (ms : List ℕ) → AreAbove n ms → has_number n ms ≡ false
 above-none n [] h = refl
 above-none n (m ∷ ms) h =
     let apart : nat_eq n m ≡ false = grind (arith, nat_tests, h.0) in
@@ -85,7 +85,7 @@ itself : (n : ℕ) → nat_eq n n ≡ true
 itself n = grind (arith, nat_tests)
 
 -- lists that rise and have the same numbers are one
-same_rising : (xs ys : List ℕ) → Rises xs → Rises ys → ((n : ℕ) → has_number n xs ≡ has_number n ys) → xs ≡ ys
+pub same_rising : (xs ys : List ℕ) → Rises xs → Rises ys → ((n : ℕ) → has_number n xs ≡ has_number n ys) → xs ≡ ys
 same_rising [] [] h g same = refl
 same_rising [] (y ∷ ys) h g same = let at = same y in let e = itself y in grind (arith, at, e)
 same_rising (x ∷ xs) [] h g same = let at = same x in let e = itself x in grind (arith, at, e)
@@ -126,7 +126,7 @@ are_above-sorted : (n : ℕ) (ms : List ℕ) → AllByRecursion (λ m. nat_cmp n
 are_above-sorted n [] h = tt
 are_above-sorted n (m ∷ ms) h = (let first = h.0 in grind (arith, nat_tests, first), are_above-sorted n ms h.1)
 
-rises-sorted : (ns : List ℕ) → IsStrictlySortedBy nat_cmp ns → Rises ns
+pub rises-sorted : (ns : List ℕ) → IsStrictlySortedBy nat_cmp ns → Rises ns
 unfolding IsStrictlySortedBy
 rises-sorted [] h = tt
 rises-sorted (n ∷ ns) h = (are_above-sorted n ns h.0, rises-sorted ns h.1)

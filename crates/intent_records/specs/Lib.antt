@@ -3,3 +3,4 @@ pub mod KeyOrder
 pub mod Holds
 pub mod Search
 pub mod Steps
+pub mod Related

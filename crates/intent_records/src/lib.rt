@@ -10,6 +10,7 @@ mod bounds;
 mod intents;
 mod primary_record;
 mod record_key;
+mod related;
 mod search;
 #[cfg(test)]
 mod tests;
