@@ -1,0 +1,9 @@
+pub mod Fitted
+pub mod Changing
+pub mod Grouped
+pub mod Told
+pub mod Owned
+pub mod Meeting
+pub mod Turns
+pub mod Near
+pub mod Collecting
