@@ -1,0 +1,4 @@
+pub mod Fitted
+pub mod Says
+pub mod Performing
+pub mod Restarting
