@@ -1,0 +1,6 @@
+pub mod Tablets
+pub mod Numbers
+pub mod LastWord
+pub mod Rising
+pub mod NextRow
+pub mod Index

@@ -1,0 +1,9 @@
+use Rattle.std.proofs.Common.{◌≡◌, List, filter}
+use Rattle.txn_data.specs.declared.written.Written.{Written}
+use Rattle.txn_types.specs.Session.{is_untouched}
+use Rattle.regular_records.specs.Holding.{Holds}
+use Rattle.own_writes.specs.Numbered.{numbered}
+use Rattle.own_writes.proofs.overlay.rows_untouched.Given as goal
+
+abbrev pub invariant-loop-row : goal.invariant-loop-row
+invariant-loop-row l = (ws : List Written) → Holds l.own (numbered 0 ws) → l.rest.items ≡ filter (is_untouched ws) l.yielded

@@ -1,0 +1,5 @@
+pub mod Accepted
+pub mod OwnWrites
+pub mod Numbered
+pub mod Indexed
+pub mod Merging
