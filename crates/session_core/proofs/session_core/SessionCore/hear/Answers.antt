@@ -1,0 +1,63 @@
+use Rattle.std.proofs.Common.{◌≡◌, ℕ, ◌+◌, true, Option, Some, None, refl, sym, ap, ◌∙◌, subst}
+use Rattle.std.specs.Prelude.{is_none, IfOk}
+use Rattle.txn_data.specs.declared.actor.Actor.TheVariants.{Session}
+use Rattle.txn_data.specs.declared.event.Event.TheVariants as event
+use Rattle.txn_data.specs.declared.told.Told.{Told}
+use Rattle.txn_data.specs.declared.told.Told.TheVariants as told
+use Rattle.txn_data.specs.declared.told_refusal.ToldRefusal.TheVariants as told_refusal
+use Rattle.txn_types.specs.Program.{turn_with, with_reading}
+use Rattle.txn_types.specs.Run.{Mover, mover_after, limits_of}
+use Rattle.session_core.specs.Core.{mover, Answered, Went}
+use Rattle.session_core.specs.Kept.{keeps, who}
+use Rattle.session_core.specs.Mover.{between, within, mover_on}
+use Rattle.session_core.specs.Turn.{turn_of}
+use Rattle.session_core.specs.Work.{work_rest, timed, limits_now, is_reading}
+use Rattle.session_core.specs.declared.turn.Turn.{Turn as Made}
+use Rattle.session_core.specs.declared.under_way.UnderWay.{UnderWay}
+use Rattle.session_core.specs.declared.work.Work.{Work}
+use Rattle.session_core.specs.declared.work.Work.TheVariants as work
+use Rattle.session_core.proofs.Answering.{same_of, answered_none, answered_given, lost_within, read}
+use Rattle.session_core.proofs.Timed.{timed_turn, timed_range}
+use Rattle.session_core.proofs.Programs.{must_lose}
+use Rattle.session_core.proofs.session_core.SessionCore.hear.Goals as goal
+
+pub hear-requires-clause-sound : goal.hear-requires-clause-sound
+hear-requires-clause-sound c = c.args.self.now.sound c.in-Some.under (sym c.take.ensures.value ∙ c.in-Some.is)
+
+pub hear-requires-clause-room : goal.hear-requires-clause-room
+hear-requires-clause-room c = (c.args.self.now.fitting c.in-Some.under (sym c.take.ensures.value ∙ c.in-Some.is)).limit
+
+pub tell-requires-clause-range : goal.tell-requires-clause-range
+tell-requires-clause-range c = λ micros e.
+    (c.args.self.now.sound c.in-Some.under (sym c.take.ensures.value ∙ c.in-Some.is)).in_range micros (sym c.hear.ensures.reading ∙ e)
+
+pub returns-in-Ok-clause-turn : goal.returns-in-Ok-clause-turn
+unfolding mover
+returns-in-Ok-clause-turn c = λ config is.
+    let core = c.args.self.now in
+    let i = core.kept.session in
+    let s = keeps core.kept in
+    let n = core.commands in
+    let a = who core.kept in
+    let u = c.in-Some.under in
+    let was : core.under_way ≡ Some u = sym c.take.ensures.value ∙ c.in-Some.is in
+    let after = mover config c.go_on.new.self in
+    let m = mover_after config a (within config i s n u) None (event.Hear c.args.from c.args.reply.now) in
+    let R : Mover → Type 0 = λ x. Went config a x None after c.go_on.result in
+    let S : Option UnderWay → Type 0 = λ o. Answered config a (mover_after config a (mover_on config i s n o) None (event.Hear c.args.from c.args.reply.now)) None after c.go_on.result in
+    subst S (sym was) (answered_none config a m after c.go_on.result (subst R (c.in-Ok.ensures.mover config i s n) (c.go_on.ensures.turn config is)))
+
+pub returns-in-Err-clause-turn : goal.returns-in-Err-clause-turn
+unfolding mover
+returns-in-Err-clause-turn c = λ config is.
+    let core = c.args.self.now in
+    let i = core.kept.session in
+    let s = keeps core.kept in
+    let n = core.commands in
+    let a = who core.kept in
+    let u = c.in-Some.under in
+    let was : core.under_way ≡ Some u = sym c.take.ensures.value ∙ c.in-Some.is in
+    let after = mover config c.tell.new.self in
+    let lost : Told = told.Refused told_refusal.Memory in
+    let S : Option UnderWay → Type 0 = λ o. let m : Mover = mover_after config a (mover_on config i s n o) None (event.Hear c.args.from c.args.reply.now) in (m.may_lose ≡ true) × (after ≡ mover_after config a m None (event.Tell m.commands lost)) in
+    subst S (sym was) (c.in-Err.ensures.room, c.tell.ensures.mover config n is ∙ lost_within config i s n n n u c.hear.new.self lost c.args.from c.args.reply.now c.hear.ensures.line c.hear.ensures.reading (c.hear.ensures.limits s))

@@ -1,0 +1,43 @@
+use Rattle.std.proofs.Common.{◌≡◌, ℕ, ◌+◌, true, Option, Some, None, refl, sym, ap, ◌∙◌, subst}
+use Rattle.std.specs.Prelude.{is_none, IfOk}
+use Rattle.txn_data.specs.declared.actor.Actor.TheVariants.{Session}
+use Rattle.txn_data.specs.declared.event.Event.TheVariants as event
+use Rattle.txn_data.specs.declared.told.Told.{Told}
+use Rattle.txn_data.specs.declared.told.Told.TheVariants as told
+use Rattle.txn_data.specs.declared.told_refusal.ToldRefusal.TheVariants as told_refusal
+use Rattle.txn_types.specs.Program.{turn_with, with_reading}
+use Rattle.txn_types.specs.Run.{Mover, mover_after, limits_of}
+use Rattle.session_core.specs.Core.{mover, Answered, Went}
+use Rattle.session_core.specs.Kept.{keeps, who}
+use Rattle.session_core.specs.Mover.{between, within, mover_on}
+use Rattle.session_core.specs.Turn.{turn_of}
+use Rattle.session_core.specs.Work.{work_rest, timed, limits_now, is_reading}
+use Rattle.session_core.specs.declared.turn.Turn.{Turn as Made}
+use Rattle.session_core.specs.declared.under_way.UnderWay.{UnderWay}
+use Rattle.session_core.specs.declared.work.Work.{Work}
+use Rattle.session_core.specs.declared.work.Work.TheVariants as work
+use Rattle.session_core.proofs.Answering.{same_of, answered_none, answered_given, lost_within, read}
+use Rattle.session_core.proofs.Timed.{timed_turn, timed_range}
+use Rattle.session_core.proofs.Movers.{none_is}
+use Rattle.session_core.proofs.Programs.{must_lose}
+use Rattle.session_core.proofs.session_core.SessionCore.start.Goals as goal
+
+pub returns-in-Ok-clause-turn : goal.returns-in-Ok-clause-turn
+unfolding mover
+returns-in-Ok-clause-turn c = λ config is.
+    let core = c.args.self.now in
+    let i = core.kept.session in
+    let s = keeps core.kept in
+    let n = core.commands in
+    let a = who core.kept in
+    let u = c.in-Ok.under in
+    let started = c.start.ensures in
+    let kept = c.start.new.kept in
+    let new = same_of config core.kept kept started.named is in
+    let after = mover config c.go_on.new.self in
+    let Q : ℕ → Type 0 = λ j. Went config (Session j) (within config j (keeps kept) (n + 1) u) None after c.go_on.result in
+    let R : Mover → Type 0 = λ m. Went config a m None after c.go_on.result in
+    let S : Option UnderWay → Type 0 = λ o. Answered config a (mover_after config a (mover_on config i s n o) None (event.Start (n + 1) c.args.command.now)) None after c.go_on.result in
+    let went = subst Q started.named.session (c.go_on.ensures.turn config new) in
+    let begun = subst R (ap (λ t. within config i t (n + 1) u) started.keeps ∙ c.in-Ok.ensures.mover config n is) went in
+    subst S (sym (none_is core.under_way c.requires.idle)) (answered_none config a (mover_after config a (between s n) None (event.Start (n + 1) c.args.command.now)) after c.go_on.result begun)

@@ -1,0 +1,12 @@
+use Rattle.std.proofs.Common.{◌≡◌, Option, None, ap, sym, subst}
+use Rattle.txn_data.specs.declared.row.Row.{Row}
+use Rattle.session_core.specs.Opened.{opened_if}
+use Rattle.session_core.specs.Work.{shown, scanned}
+use Rattle.session_core.specs.declared.opened.Opened.{Opened as Open}
+use Rattle.session_core.proofs.Shown.{alone}
+use Rattle.session_core.proofs.telling.rows_told.Goals as goal
+
+pub returns-in-None-clause-rows : goal.returns-in-None-clause-rows
+returns-in-None-clause-rows c =
+    let P : Option Open → Type 0 = λ o. c.args.rows ≡ shown (opened_if o) c.args.line.now c.args.rows in
+    subst P (sym c.in-None.is) (sym (alone (scanned c.args.line.now) c.args.rows))
