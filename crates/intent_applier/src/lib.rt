@@ -8,8 +8,6 @@ pub mod laws;
 mod pass;
 mod pass_turn;
 mod stage;
-#[cfg(test)]
-mod tests;
 
 pub use pass::Pass;
 pub use pass_turn::PassTurn;

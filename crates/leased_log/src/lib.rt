@@ -18,6 +18,3 @@ pub use action::Action;
 pub use decision::{Decision, refusal_of};
 pub use laws::{the_same_log_stands, times_are_leased, times_rise};
 pub use leased_log::LeasedLog;
-
-#[cfg(test)]
-mod tests;

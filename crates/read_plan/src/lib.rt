@@ -12,8 +12,6 @@ mod read_turn;
 mod rows;
 mod stage;
 mod tablet_rows;
-#[cfg(test)]
-mod tests;
 
 pub use laws::reads_take_two_rounds;
 pub use read_plan::ReadPlan;

@@ -20,6 +20,3 @@ mod waits;
 
 pub use laws::{times_are_leased, times_rise};
 pub use status_tablet::StatusTablet;
-
-#[cfg(test)]
-mod tests;

@@ -7,8 +7,6 @@
 
 pub mod laws;
 mod stage;
-#[cfg(test)]
-mod tests;
 mod txn_plan;
 mod txn_turn;
 
