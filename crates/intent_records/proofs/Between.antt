@@ -165,14 +165,6 @@ keys_between first end k =
       then_gt-key (path_order end k.path) (ordering_then (nat_cmp 0 k.txn) (nat_cmp 0 k.position)) (least_key k.txn k.position),
     ) refl
 
-pub forward_keys : (first end : Parts) → is_gt (path_order first end) ≡ false
-    → is_gt (key_order (record { path = first; txn = 0; position = 0 }) (record { path = end; txn = 0; position = 0 })) ≡ false
-forward_keys first end h = elim (path_order first end) as (λ o. is_gt o ≡ false → is_gt (ordering_then o Equal) ≡ false) [
-  | Less ↦ λ g. refl
-  | Equal ↦ λ g. refl
-  | Greater ↦ λ g. g
-] h
-
 pub after_none : (n : ℕ) → nat_eq (suc n) 0 ≡ false
 after_none n = grind (arith, nat_tests)
 

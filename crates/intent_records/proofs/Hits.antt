@@ -2,9 +2,9 @@
 use Rattle.std.proofs.Common.{◌≡◌, ℕ, ◌+◌, ◌<◌, ◌≤◌, Bool, true, false, ◌&&◌, ◌||◌, not, List, [], ◌∷◌, ◌++◌, Option, Some, None, length, refl, sym, ap, ◌∙◌, arith, inl, inr, nat_eq, nat_le, take, get_or, All}
 use Rattle.std.specs.Prelude.{filter, map, cond, slice_get}
 use Rattle.std.specs.List.{list_any}
-use Rattle.std.specs.BTreeMap.{get, is_at}
+use Rattle.std.specs.BTreeMap.{get}
 use Rattle.std.specs.BTreeMap.Range.{range_contains, entries_between}
-use Rattle.std.specs.Ordering.{nat_cmp, is_le}
+use Rattle.std.specs.Ordering.{is_le}
 use Rattle.std.specs.declared.ops.Bound.TheVariants.{Included, Excluded}
 use Rattle.std.proofs.lemmas.List.Elements.{All-tail}
 use Rattle.std.proofs.lemmas.List.Folds.{list_any_at, list_any_more}
@@ -21,7 +21,7 @@ use Rattle.intent_records.specs.Holds.{Holds, own, primary_of, record_at}
 use Rattle.intent_records.specs.KeyOrder.{key_order_total, key_order_exact}
 use Rattle.intent_records.specs.Keys.{key_order}
 use Rattle.intent_records.specs.Search.{hit, asks, between, some_parts, near, near_any, above_to, next_after, others_until, others_meeting}
-use Rattle.intent_records.proofs.Between.{same_path-itself, is_eq-nat_cmp, between-next, between-after, keys_between, above_none, above_more, above_all}
+use Rattle.intent_records.proofs.Between.{same_path-itself, between-next, between-after, keys_between, above_none, above_more, above_all}
 use Rattle.intent_records.proofs.Writes.{own-member, own-place, record_at-some, is_of-txn, is_of-itself, any-member, member-any, list_any-same, has_number-filter}
 
 pub hit-or : (f g : Parts → Bool) (own_txn until : Option ℕ) (x : ℕ) (es : List (RecordKey × PrimaryRecord))
@@ -176,21 +176,6 @@ pub hit-skip : (own_txn until : Option ℕ) (x : ℕ) (k : RecordKey) (r : Prima
 hit-skip own_txn until x k r rest es before whole skipped =
     ap (λ b. before || ((b && nat_eq k.txn x) || hit (λ q. true) own_txn until x rest)) (sym skipped)
     ∙ ap (λ l. before || hit (λ q. true) own_txn until x l) (sym whole)
-
-pub hit-take : (own_txn until : Option ℕ) (x : ℕ) (k : RecordKey) (r : PrimaryRecord) (rest es : List (RecordKey × PrimaryRecord)) (before after : Bool)
-    → es ≡ (k, r) ∷ rest → asks own_txn until k.txn r.wrote ≡ true
-    → after ≡ cond (is_at (nat_cmp k.txn) x) true before
-    → (after || hit (λ q. true) own_txn until x rest) ≡ (before || hit (λ q. true) own_txn until x es)
-hit-take own_txn until x k r rest es before after whole taken added =
-    ap (λ b. b || hit (λ q. true) own_txn until x rest) (added ∙ ap (λ b. cond b true before) (is_eq-nat_cmp k.txn x))
-    ∙ by (nat_eq k.txn x) before (hit (λ q. true) own_txn until x rest)
-    ∙ ap (λ b. before || ((b && nat_eq k.txn x) || hit (λ q. true) own_txn until x rest)) (sym taken)
-    ∙ ap (λ l. before || hit (λ q. true) own_txn until x l) (sym whole)
-  where
-    by : (a b r : Bool) → (cond a true b || r) ≡ (b || (a || r))
-    by true true r = refl
-    by true false r = refl
-    by false b r = refl
 
 pub hit-end : (own_txn until : Option ℕ) (x : ℕ) (es : List (RecordKey × PrimaryRecord)) (found all : Bool)
     → es ≡ [] → (found || hit (λ q. true) own_txn until x es) ≡ all → found ≡ all

@@ -1,5 +1,5 @@
 -- The positions of records that a search finds, at the transactions that are asked for.
-use Rattle.std.proofs.Common.{◌≡◌, ℕ, ◌+◌, ◌<◌, ◌≤◌, Bool, true, false, ◌&&◌, ◌||◌, not, List, [], ◌∷◌, ◌++◌, Option, Some, None, length, refl, sym, ap, ◌∙◌, arith, nat_eq, take, get_or}
+use Rattle.std.proofs.Common.{◌≡◌, ℕ, ◌+◌, ◌<◌, ◌≤◌, Bool, true, false, ◌&&◌, ◌||◌, not, List, [], ◌∷◌, ◌++◌, Option, Some, length, refl, sym, ap, ◌∙◌, arith, nat_eq, take, get_or}
 use Rattle.std.specs.Prelude.{filter, cond, is_some}
 use Rattle.std.specs.List.{list_any}
 use Rattle.std.specs.BTreeSet.{BTreeSet, contains}
@@ -85,10 +85,6 @@ placed-range first end a b x i part es from to is =
 
 -- ---- positions are added
 
-or-assoc : (a b c : Bool) → ((a || b) || c) ≡ (a || (b || c))
-or-assoc true b c = refl
-or-assoc false b c = refl
-
 pub adds-none : (s : Placing) → Adds (λ x i. false) s s
 adds-none s = record { asks = λ x. refl; has = λ x i. by (has_place (s x) i) (is_some (s x)) }
   where
@@ -156,23 +152,6 @@ adds-place k s t positions after some written added = record {
         ∙ turned (nat_eq k.position i) (contains nat_cmp positions i)
         ∙ ap (λ o. has_place o i || (is_some o && nat_eq k.position i)) (sym (some_at x h))
     has_by x i false h = unchanged (has_place (s x) i) (is_some (s x))
-
-pub adds-unasked : (k : RecordKey) (s : Placing) → s k.txn ≡ None → Adds (λ x i. nat_eq k.txn x && nat_eq k.position i) s s
-adds-unasked k s none = record { asks = λ x. refl; has = λ x i. by x i (nat_eq k.txn x) refl }
-  where
-    same_number : (m n : ℕ) → nat_eq m n ≡ true → m ≡ n
-    same_number m n h = grind (arith, nat_tests, h)
-
-    unchanged : (a b : Bool) → a ≡ (a || (b && false))
-    unchanged true b = refl
-    unchanged false true = refl
-    unchanged false false = refl
-
-    by : (x i : ℕ) (b : Bool) → nat_eq k.txn x ≡ b → has_place (s x) i ≡ (has_place (s x) i || (is_some (s x) && (b && nat_eq k.position i)))
-    by x i true h =
-        let at : s x ≡ None = ap s (sym (same_number k.txn x h)) ∙ none in
-        ap (λ o. has_place o i) at ∙ sym (ap (λ o. has_place o i || (is_some o && nat_eq k.position i)) at)
-    by x i false h = unchanged (has_place (s x) i) (is_some (s x))
 
 -- ---- a search in a part of the records
 

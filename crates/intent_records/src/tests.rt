@@ -1,4 +1,4 @@
-//! Each public call once, with ample memory. What they answer is worked by hand in the tables of the programs above.
+//! Each public call once, with ample memory. What they answer is worked by hand in the lines of `docdb_actor`.
 use crate::Intents;
 use doc_path::Path;
 use hybrid_time::HybridTime;

@@ -1,5 +1,5 @@
 -- The last word of numbered writes, and a row beneath them.
-use Rattle.std.proofs.Common.{◌≡◌, true, false, List, Option, Some, None, refl, sym, ap, ◌∙◌}
+use Rattle.std.proofs.Common.{◌≡◌, true, List, Option, Some, None, refl, sym, ap, ◌∙◌}
 use Rattle.std.specs.Prelude.{is_some, option_map}
 use Rattle.doc_path.specs.Path.{Parts}
 use Rattle.txn_data.specs.declared.row.Row.{Row}
@@ -33,10 +33,3 @@ goes_by ws row = record { path = row.path; value = value ws row.path }
 
 pub row_over : (ws : List Written) (row : Row) → is_some (last_word ws row.path) ≡ true → row_under ws row ≡ record { path = row.path; value = value ws row.path }
 row_over ws row h = over_choice (last_word ws row.path) (goes_by ws row) row h
-
-under_choice : (o : Option Written) (over row : Row) → is_some o ≡ false → (elim o as (λ _. Row) [ Some w ↦ over | None ↦ row ]) ≡ row
-under_choice None over row h = refl
-under_choice (Some w) over row h = cc
-
-pub row_stays : (ws : List Written) (row : Row) → is_some (last_word ws row.path) ≡ false → row_under ws row ≡ row
-row_stays ws row h = under_choice (last_word ws row.path) (goes_by ws row) row h

@@ -1,5 +1,5 @@
 -- What a call makes of a mover.
-use Rattle.std.proofs.Common.{◌≡◌, ℕ, ◌%◌, true, false, Option, Some, None, refl, sym, ap, ◌∙◌}
+use Rattle.std.proofs.Common.{◌≡◌, ℕ, ◌%◌, false, Some, None, sym, ap, ◌∙◌}
 use Rattle.std.specs.Prelude.{Result, Ok, Err, IfOk}
 use Rattle.txn_data.specs.declared.actor.Actor.{Actor}
 use Rattle.txn_data.specs.declared.actor.Actor.TheVariants.{Session}
@@ -14,13 +14,13 @@ use Rattle.txn_types.specs.Session.{Keeps, keeps_after}
 use Rattle.session_core.specs.Core.{Answered, Went}
 use Rattle.session_core.specs.Kept.{IsOf, IsNamed}
 use Rattle.session_core.specs.Mover.{between, within}
-use Rattle.session_core.specs.Turn.{turn_of, is_wanting}
+use Rattle.session_core.specs.Turn.{is_wanting}
 use Rattle.session_core.specs.UnderWay.{limits_under}
 use Rattle.session_core.specs.declared.kept.Kept.{Kept}
 use Rattle.session_core.specs.declared.turn.Turn.{Turn as Made}
 use Rattle.session_core.specs.declared.turn.Turn.TheVariants as made
 use Rattle.session_core.specs.declared.under_way.UnderWay.{UnderWay}
-use Rattle.session_core.proofs.Programs.{with_none, turn_none, or_none}
+use Rattle.session_core.proofs.Programs.{with_none, turn_none}
 
 pub same_of : (config : Config) (old new : Kept) → IsNamed old new → IsOf config old → IsOf config new
 same_of config old new named is = record { status = named.status ∙ is.status ∙ ap (λ j. j % config.status) (sym named.session); skew = named.skew ∙ is.skew }

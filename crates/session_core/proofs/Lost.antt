@@ -1,5 +1,5 @@
 -- A command that is lost at its start leaves the open transaction as it was.
-use Rattle.std.proofs.Common.{◌≡◌, ℕ, List, Option, Some, None, refl, sym, ap, ◌∙◌, max, arith}
+use Rattle.std.proofs.Common.{◌≡◌, ℕ, Option, Some, None, refl, sym, ap, ◌∙◌, max, arith}
 use Rattle.txn_data.specs.declared.command.Command.{Command}
 use Rattle.txn_data.specs.declared.command.Command.TheVariants as command
 use Rattle.txn_data.specs.declared.config.Config.{Config}

@@ -1,9 +1,8 @@
 -- Movers that differ in nothing.
-use Rattle.std.proofs.Common.{◌≡◌, ℕ, Bool, true, false, ◌&&◌, not, List, [], Option, Some, None, refl, sym, ap, ◌∙◌}
+use Rattle.std.proofs.Common.{◌≡◌, ℕ, Bool, true, false, ◌&&◌, not, List, Option, Some, None, refl, ap, ◌∙◌}
 use Rattle.std.specs.Prelude.{Result, Ok, Err, OnOk, is_none}
 use Rattle.std.specs.Option.{option_or}
 use Rattle.txn_data.specs.declared.actor.Actor.TheVariants.{Session}
-use Rattle.txn_data.specs.declared.command.Command.{Command}
 use Rattle.txn_data.specs.declared.config.Config.{Config}
 use Rattle.txn_data.specs.declared.event.Event.TheVariants as event
 use Rattle.txn_data.specs.declared.tablet_limit.TabletLimit.{TabletLimit}

@@ -1,8 +1,8 @@
 -- Outside a transaction a read is told the rows that it found.
-use Rattle.std.proofs.Common.{◌≡◌, List, [], ◌∷◌, Option, Some, None, refl, ap, ◌∙◌}
+use Rattle.std.proofs.Common.{◌≡◌, List, [], ◌∷◌, Option, Some, None, refl, ap}
 use Rattle.std.specs.Prelude.{map, filter}
 use Rattle.txn_data.specs.declared.place.Place.{Place}
-use Rattle.txn_data.specs.declared.read_kind.ReadKind.TheVariants.{Get, Scan}
+use Rattle.txn_data.specs.declared.read_kind.ReadKind.TheVariants.{Scan}
 use Rattle.txn_data.specs.declared.row.Row.{Row}
 use Rattle.txn_types.specs.Session.{row_under, is_untouched, rows_under, with_rows}
 use Rattle.txn_types.specs.Writes.{last_word, paths_beneath, beneath}

@@ -1,6 +1,6 @@
 -- A command that takes a reading first.
-use Rattle.std.proofs.Common.{◌≡◌, ℕ, true, false, Option, Some, None, refl}
-use Rattle.std.specs.Prelude.{Result, Ok, Err}
+use Rattle.std.proofs.Common.{◌≡◌, ℕ, true, Some, refl}
+use Rattle.std.specs.Prelude.{Err}
 use Rattle.hybrid_time.specs.Time.{least_time}
 use Rattle.hybrid_time.specs.declared.time_refusal.TimeRefusal.{TimeRefusal}
 use Rattle.txn_data.specs.declared.actor.Actor.TheVariants.{Session}

@@ -1,5 +1,5 @@
 -- A write inside the open transaction, where it is not in doubt.
-use Rattle.std.proofs.Common.{◌≡◌, ℕ, false, Option, Some, length, refl, sym, ap, ◌∙◌}
+use Rattle.std.proofs.Common.{◌≡◌, ℕ, false, Some, length, refl, sym, ap, ◌∙◌}
 use Rattle.txn_data.specs.declared.op.Op.{Op}
 use Rattle.txn_data.specs.declared.place.Place.{Place}
 use Rattle.txn_data.specs.declared.told.Told.{Told}

@@ -1,5 +1,5 @@
 -- What a session keeps between two commands, as the tables have it.
-use Rattle.std.specs.Prelude.{◌≡◌, ℕ, ◌%◌}
+use Rattle.std.specs.Prelude.{◌≡◌, ◌%◌}
 use Rattle.txn_data.specs.declared.actor.Actor.{Actor}
 use Rattle.txn_data.specs.declared.actor.Actor.TheVariants.{Session}
 use Rattle.txn_data.specs.declared.config.Config.{Config}

@@ -15,7 +15,7 @@ use Rattle.txn_data.specs.declared.told.Told.{Told}
 use Rattle.txn_data.specs.declared.told.Told.TheVariants as told
 use Rattle.txn_data.specs.declared.told_refusal.ToldRefusal.TheVariants as told_refusal
 use Rattle.txn_data.specs.declared.written.Written.{Written}
-use Rattle.txn_types.specs.Program.{Program, Done, Asks, Turn, Ask, then_do, turn}
+use Rattle.txn_types.specs.Program.{Program, Done, Asks, then_do, turn}
 use Rattle.txn_types.specs.TxnProgram.{lost}
 use Rattle.txn_types.specs.Session.{Keeps, Opened, writes_of, rows_under, begin_program, read_alone, restart_program}
 use Rattle.txn_plan.specs.Rest.{rest as txn_rest}
@@ -90,7 +90,7 @@ takes_room (work.Read p limits) = read_takes_room (turn (read_rest p))
 takes_room (work.Apply p) = pass_asks (turn (pass_rest p))
 takes_room _ = false
 
--- the command wants a reading, is told something already, or is a read
+-- the command wants a reading
 abbrev pub is_reading : Work → Bool
 is_reading work.Reading = true
 is_reading _ = false

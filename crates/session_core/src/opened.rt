@@ -3,10 +3,9 @@ ghost use Rattle.std.specs.Prelude.{◌≡◌, ℕ, ◌≤◌, ◌<◌, ◌+◌,
 ghost use Rattle.txn_data.specs.declared.command.Command.{Command};
 ghost use Rattle.txn_data.specs.declared.config.Config.{Config};
 ghost use Rattle.txn_data.specs.declared.tablet_limit.TabletLimit.{TabletLimit};
-ghost use Rattle.txn_types.specs.Run.{limits_of};
 ghost use Rattle.txn_types.specs.Session.{Keeps, after_write as written_after, after_end as ended_after, after_read as read_after, opened_after, next_meta};
 ghost use Rattle.own_writes.specs.OwnWrites.{HasRoom};
-ghost use Rattle.session_core.specs.Opened.{opened, opened_if, written, limits_held, HaveRoom};
+ghost use Rattle.session_core.specs.Opened.{opened, opened_if, written, limits_held};
 ghost use Rattle.session_core.specs.Lines.{writes_line};
 
 use hybrid_time::{HybridTime, limit};

@@ -1,9 +1,8 @@
 //! The command that is under way.
-ghost use Rattle.std.specs.Prelude.{◌≡◌, ℕ, ◌<◌, ◌+◌, ◌^◌, ◌&&◌, not, true, false, None, is_none, IfOk, OnOk, OnErr, List};
+ghost use Rattle.std.specs.Prelude.{◌≡◌, ℕ, ◌<◌, ◌+◌, ◌^◌, ◌&&◌, not, true, false, None, is_none, IfOk, OnOk, OnErr};
 ghost use Rattle.txn_data.specs.declared.config.Config.{Config};
 ghost use Rattle.txn_data.specs.declared.actor.Actor.TheVariants.{Session};
 ghost use Rattle.txn_data.specs.declared.event.Event.TheVariants.{Start, Hear};
-ghost use Rattle.txn_data.specs.declared.tablet_limit.TabletLimit.{TabletLimit as Limit};
 ghost use Rattle.txn_types.specs.Program.{turn};
 ghost use Rattle.txn_types.specs.Run.{mover_after, limits_after, is_settling as settles};
 ghost use Rattle.txn_types.specs.Session.{Keeps};
@@ -11,7 +10,7 @@ ghost use Rattle.session_core.specs.Kept.{keeps, IsOf, IsNamed, who};
 ghost use Rattle.session_core.specs.Lines.{has_few_places, is_listed, writes_line};
 ghost use Rattle.session_core.specs.Opened.{written, HaveRoom};
 ghost use Rattle.session_core.specs.Turn.{turn_of, is_ask, asks_list, is_wanting};
-ghost use Rattle.session_core.specs.Work.{waits, is_reading, is_read, limits_now, HasLimitRoom};
+ghost use Rattle.session_core.specs.Work.{waits, is_reading, is_read, HasLimitRoom};
 
 use crate::hearing::is_settling;
 use crate::kept::Kept;

@@ -15,7 +15,7 @@ use Rattle.txn_types.specs.Status.{Record, noted_after, sure_after, status_up, s
 use Rattle.leased_log.specs.Decides.{IsPlain}
 use Rattle.status_tablet.specs.declared.mark.Mark.TheVariants as mark
 use Rattle.status_tablet.specs.Keeps.{kept_of}
-use Rattle.status_tablet.specs.Stands.{StatusState, Stands}
+use Rattle.status_tablet.specs.Stands.{StatusState}
 use Rattle.status_tablet.specs.Rows.{IsUpRequest, Says}
 
 plain_answer : (lease : ℕ) (h : History) (fails : Bool) (reading : ℕ) (asked : Request) → IsPlain asked

@@ -1,6 +1,6 @@
 -- What is done leaves the status tablet standing for its entries with one more.
-use Rattle.std.proofs.Common.{◌≡◌, ℕ, ◌+◌, ◌-◌, ◌^◌, ◌≤◌, suc, Bool, true, false, cond, List, [], ◌∷◌, ◌++◌, length, Option, Some, None, refl, sym, ap, subst, ◌∙◌, arith}
-use Rattle.std.specs.Prelude.{min, option_to_list}
+use Rattle.std.proofs.Common.{◌≡◌, ℕ, ◌+◌, ◌≤◌, suc, Bool, cond, List, [], ◌∷◌, ◌++◌, length, Option, Some, None, refl, sym, ap, subst, ◌∙◌, arith}
+use Rattle.std.specs.Prelude.{option_to_list}
 use Rattle.std.specs.List.{fold}
 use Rattle.docdb_outside.specs.Count.{Rose}
 use Rattle.txn_data.specs.Time.{takes_time}
@@ -28,7 +28,7 @@ use Rattle.tablet_log.specs.Entries.{logged_records}
 use Rattle.tablet_log.specs.Replay.{record_after, record_in}
 use Rattle.leased_log.specs.Stands as log
 use Rattle.leased_log.specs.Stands.{LogState, IsSame, StandsStill}
-use Rattle.leased_log.specs.Decides.{time_of, lease_of, lease_records, records_for, logs, IsPlain, IsTold, Decides, Done, entry}
+use Rattle.leased_log.specs.Decides.{time_of, lease_of, lease_records, records_for, IsTold, Decides, Done, entry}
 use Rattle.leased_log.specs.Acts.{SameCounts, Acts, ActsBy, reply_by, clock_after}
 use Rattle.leased_log.specs.declared.decision.Decision.{Decision}
 use Rattle.leased_log.proofs.Parts.{down_same, none_of_or}
@@ -38,7 +38,7 @@ use Rattle.status_tablet.specs.declared.txn_record.TxnRecord.{TxnRecord}
 use Rattle.status_tablet.specs.declared.row.Row.{Row}
 use Rattle.status_tablet.specs.Keeps.{kept_at, kept_of, kept_with, marked}
 use Rattle.status_tablet.specs.Stands.{StatusState, Stands}
-use Rattle.status_tablet.specs.Rows.{append_of, event_of, record_with, StaysItself, ServesBy, Changes, Says, IsDone, IsUndone, out_of_memory}
+use Rattle.status_tablet.specs.Rows.{event_of, record_with, StaysItself, ServesBy, Says, IsDone, IsUndone, out_of_memory}
 use Rattle.status_tablet.specs.Restarts.{IfRestarted}
 
 -- what the laws of the crates below say

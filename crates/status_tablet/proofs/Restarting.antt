@@ -3,12 +3,10 @@ use Rattle.std.proofs.Common.{◌≡◌, ℕ, Bool, true, false, cond, nat_eq, �
 use Rattle.std.specs.List.{fold}
 use Rattle.txn_data.specs.declared.actor.Actor.{Actor}
 use Rattle.txn_data.specs.declared.actor.Actor.TheVariants.{Status}
-use Rattle.txn_data.specs.declared.append.Append.TheVariants.{Nothing}
 use Rattle.txn_data.specs.declared.request.Request.TheVariants.{Restart}
 use Rattle.txn_types.specs.History.{History}
 use Rattle.txn_types.specs.Clock.{down_since}
 use Rattle.txn_types.specs.Status.{Record, NoRecord, Pending, Committed, AbortedBy, record_of, noted, is_sure}
-use Rattle.txn_types.specs.Run.{Serves}
 use Rattle.txn_types.specs.Machine.{Advances}
 use Rattle.safe_time.specs.ActorClock.{ClockState, restarted}
 use Rattle.log_record.specs.declared.log_record.LogRecord.{LogRecord}
@@ -21,7 +19,7 @@ use Rattle.leased_log.specs.Loads.{failed_load, NotLoaded, restart, HoldsPiece, 
 use Rattle.leased_log.proofs.Parts.{none_of_or}
 use Rattle.status_tablet.specs.declared.txn_record.TxnRecord.{TxnRecord}
 use Rattle.status_tablet.specs.declared.txn_record.TxnRecord.TheVariants as kept
-use Rattle.status_tablet.specs.Keeps.{kept_at, kept_of, kept_after, names_none}
+use Rattle.status_tablet.specs.Keeps.{kept_of, kept_after, names_none}
 use Rattle.status_tablet.specs.Stands.{StatusState, Stands}
 use Rattle.status_tablet.specs.Rows.{StaysItself}
 use Rattle.status_tablet.specs.Restarts.{IsRebuilt, StartsAgain, StaysUnloaded, restarted_with, not_loaded}

@@ -1,27 +1,20 @@
 -- What the table says where the rows decide.
-use Rattle.std.proofs.Common.{◌≡◌, ℕ, Bool, true, false, cond, not, ◌||◌, nat_eq, List, [], ◌∷◌, Option, Some, None, Ok, refl, sym, ap, ◌∙◌}
+use Rattle.std.proofs.Common.{◌≡◌, ℕ, Bool, true, false, cond, ◌||◌, nat_eq, List, [], ◌∷◌, Option, Some, None, Ok, refl, sym, ap, ◌∙◌}
 use Rattle.std.specs.Prelude.{is_some, option_map}
-use Rattle.txn_data.specs.declared.actor.Actor.{Actor}
-use Rattle.txn_data.specs.declared.actor.Actor.TheVariants.{Status}
 use Rattle.txn_data.specs.declared.fate.Fate.{Fate}
-use Rattle.txn_data.specs.declared.request.Request.{Request}
 use Rattle.txn_data.specs.declared.request.Request.TheVariants as request
 use Rattle.txn_data.specs.declared.reply.Reply.{Reply}
 use Rattle.txn_data.specs.declared.reply.Reply.TheVariants as reply
 use Rattle.txn_types.specs.History.{History}
-use Rattle.txn_types.specs.Clock.{Answer, logged, timed, Own, Floor, down_since}
+use Rattle.txn_types.specs.Clock.{logged, timed, Own, Floor, down_since}
 use Rattle.txn_types.specs.Status.{Record, NoRecord, Pending, Committed, AbortedBy, record_of, noted, is_sure, fate_told, may_forget, commit_answer, status_standing}
 use Rattle.safe_time.specs.declared.step.Step.{Step}
 use Rattle.safe_time.specs.ActorClock.{ClockState, kind_of, served, clock_of, answer_over}
-use Rattle.log_record.specs.declared.log_record.LogRecord.{LogRecord}
 use Rattle.log_record.specs.declared.log_record.LogRecord.TheVariants as log_record
-use Rattle.leased_log.specs.declared.decision.Decision.{Decision}
-use Rattle.leased_log.specs.Decides.{Decides, answer_of}
 use Rattle.status_tablet.specs.declared.txn_record.TxnRecord.{TxnRecord}
 use Rattle.status_tablet.specs.declared.txn_record.TxnRecord.TheVariants as kept
 use Rattle.status_tablet.specs.declared.mark.Mark.TheVariants as mark
-use Rattle.status_tablet.specs.declared.row.Row.{Row}
-use Rattle.status_tablet.specs.Keeps.{kept_at, waiting, names_none, kept_of, fate_kept, forgets, told, without}
+use Rattle.status_tablet.specs.Keeps.{kept_at, names_none, kept_of, fate_kept, forgets, told, without}
 use Rattle.status_tablet.specs.Stands.{StatusState, Stands}
 use Rattle.status_tablet.specs.Rows.{Says, IsPending}
 use Rattle.status_tablet.proofs.Table.{fate_same, waiting_all, waiting_more, forgets_same}

@@ -1,17 +1,12 @@
 -- How what a call promises is what `serve` promises of its request.
-use Rattle.std.proofs.Common.{◌≡◌, ℕ, Bool, Option, None, subst}
+use Rattle.std.proofs.Common.{ℕ, Option, None}
 use Rattle.txn_data.specs.declared.actor.Actor.{Actor}
 use Rattle.txn_data.specs.declared.actor.Actor.TheVariants.{Status}
 use Rattle.txn_data.specs.declared.request.Request.{Request}
-use Rattle.txn_data.specs.declared.request.Request.TheVariants as request
-use Rattle.txn_data.specs.declared.reply.Reply.{Reply}
-use Rattle.txn_data.specs.declared.reply.Reply.TheVariants as reply
 use Rattle.txn_data.specs.declared.served.Served.{Served}
 use Rattle.txn_types.specs.Machine.{Advances}
-use Rattle.leased_log.specs.Decides.{IsPlain}
 use Rattle.status_tablet.specs.Stands.{StatusState, Stands}
 use Rattle.status_tablet.specs.Rows.{ServesBy}
-use Rattle.status_tablet.specs.Restarts.{IfRestarted, IsRebuilt}
 
 -- a request that takes no reading is served alike whether one is given or not
 pub with_reading : (old new : StatusState) (from : Actor) (reading : Option ℕ) (asked : Request) (s : Served) → ServesBy old new from None asked s

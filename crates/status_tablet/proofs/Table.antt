@@ -1,11 +1,9 @@
 -- What the rows of the table read off what is kept.
-use Rattle.std.proofs.Common.{◌≡◌, ℕ, Bool, true, false, cond, not, ◌&&◌, ◌||◌, nat_eq, filter, List, [], ◌∷◌, Option, Some, None, refl, sym, ap, ◌∙◌}
+use Rattle.std.proofs.Common.{◌≡◌, ℕ, Bool, true, false, cond, not, ◌&&◌, ◌||◌, nat_eq, filter, List, [], ◌∷◌, refl, ap, ◌∙◌}
 use Rattle.std.specs.List.{list_all}
 use Rattle.txn_types.specs.Lists.{has_number}
 use Rattle.txn_types.specs.Status.{Record, NoRecord, Pending, Committed, AbortedBy, fate_told, may_forget}
-use Rattle.status_tablet.specs.declared.txn_record.TxnRecord.{TxnRecord}
-use Rattle.status_tablet.specs.declared.txn_record.TxnRecord.TheVariants as kept
-use Rattle.status_tablet.specs.Keeps.{waiting, names_none, kept_of, fate_kept, forgets, without}
+use Rattle.status_tablet.specs.Keeps.{waiting, kept_of, fate_kept, forgets}
 
 pub fate_same : (r : Record) (ns : List ℕ) (sure : Bool) → fate_kept (kept_of r ns sure) ≡ fate_told r
 fate_same NoRecord ns sure = refl

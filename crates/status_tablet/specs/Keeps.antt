@@ -12,7 +12,6 @@ use Rattle.log_record.specs.declared.log_record.LogRecord.{LogRecord}
 use Rattle.log_record.specs.declared.log_record.LogRecord.TheVariants as log_record
 use Rattle.status_tablet.specs.declared.txn_record.TxnRecord.{TxnRecord}
 use Rattle.status_tablet.specs.declared.txn_record.TxnRecord.TheVariants as kept
-use Rattle.status_tablet.specs.declared.commit.Commit.{Commit}
 use Rattle.status_tablet.specs.declared.mark.Mark.{Mark}
 use Rattle.status_tablet.specs.declared.mark.Mark.TheVariants as mark
 

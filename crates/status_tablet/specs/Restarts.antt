@@ -1,5 +1,5 @@
 -- What a restart of a status tablet comes to.
-use Rattle.std.specs.Prelude.{◌≡◌, ℕ, ◌↔◌, Bool, true, false, List, [], Option, None}
+use Rattle.std.specs.Prelude.{◌≡◌, ℕ, ◌↔◌, Bool, true, false, List, [], None}
 use Rattle.std.specs.List.{fold}
 use Rattle.docdb_outside.specs.Count.{Rose}
 use Rattle.txn_data.specs.declared.append.Append.TheVariants.{Nothing}

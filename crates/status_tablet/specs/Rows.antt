@@ -1,5 +1,5 @@
 -- What a row of the table of a status tablet comes to: a decision, and what is kept in no log.
-use Rattle.std.specs.Prelude.{◌≡◌, ℕ, Bool, true, false, List, Option, Some, None, if◌then◌else◌}
+use Rattle.std.specs.Prelude.{◌≡◌, ℕ, Bool, true, List, Option, Some, None, if◌then◌else◌}
 use Rattle.std.specs.List.{AllByRecursion}
 use Rattle.docdb_outside.specs.Count.{Rose}
 use Rattle.txn_data.specs.Time.{takes_time}

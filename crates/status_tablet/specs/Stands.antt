@@ -1,6 +1,5 @@
 -- When a status tablet stands for its entries.
-use Rattle.std.specs.Prelude.{◌≡◌, ℕ, List, Option, None}
-use Rattle.txn_data.specs.declared.actor.Actor.{Actor}
+use Rattle.std.specs.Prelude.{◌≡◌, ℕ, List, None}
 use Rattle.txn_data.specs.declared.actor.Actor.TheVariants.{Status}
 use Rattle.txn_types.specs.History.{History}
 use Rattle.txn_types.specs.Clock.{down_since}

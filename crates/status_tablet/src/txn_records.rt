@@ -1,7 +1,6 @@
 //! What a status tablet keeps of all transactions.
 ghost use Rattle.std.specs.Prelude.{◌≡◌, ℕ, None, Some, false, nat_eq, if◌then◌else◌, option_copied, option_map, OnOk, OnErr, IfOk};
 ghost use Rattle.std.specs.List.{fold};
-ghost use Rattle.status_tablet.specs.declared.txn_record.TxnRecord.{TxnRecord as Kept};
 ghost use Rattle.status_tablet.specs.Keeps.{names_none, kept_at, kept_after, kept_with, told, without, marked};
 
 use crate::commit::Commit;

@@ -1,22 +1,17 @@
 -- A log of records whose paths fit stays one.
-use Rattle.std.proofs.Common.{◌≡◌, ℕ, ◌⊎◌, zero, suc, inl, inr, List, [], ◌∷◌, ◌++◌, length, Option, Some, None, Result, Ok, Err, refl, sym, ap, subst, ◌∙◌, arith}
-use Rattle.std.specs.Prelude.{OnOk, OnErr, IfOk, IfSome, IsErrOf, Vec, option_to_list}
-use Rattle.std.specs.List.{All, AllByRecursion}
-use Rattle.std.specs.declared.alloc.Global.{Global}
+use Rattle.std.proofs.Common.{◌≡◌, ℕ, inl, inr, List, [], ◌∷◌, ◌++◌, Option, Some, None, sym, ap, ◌∙◌}
+use Rattle.std.specs.Prelude.{IfSome, option_to_list}
+use Rattle.std.specs.List.{AllByRecursion}
 use Rattle.std.proofs.lemmas.Grind.{flat_map-append}
 use Rattle.doc_path.specs.Path.{Parts}
 use Rattle.txn_data.specs.declared.append.Append.{Append}
 use Rattle.txn_data.specs.declared.append.Append.TheVariants.{Nothing, Took, Failed}
-use Rattle.docdb_outside.specs.declared.load_fault.LoadFault.{LoadFault}
-use Rattle.docdb_outside.specs.declared.load_fault.LoadFault.TheVariants as fault
-use Rattle.safe_time.specs.declared.step.Step.{Step}
 use Rattle.log_record.specs.declared.log_record.LogRecord.{LogRecord}
-use Rattle.tablet_log.specs.Frames.{IsRecord, Holds, frame, frames}
+use Rattle.tablet_log.specs.Frames.{IsRecord, frame, frames}
 use Rattle.leased_log.specs.declared.decision.Decision.{Decision}
-use Rattle.leased_log.specs.Stands.{LogState, IsSame}
+use Rattle.leased_log.specs.Stands.{LogState}
 use Rattle.leased_log.specs.Decides.{lease_of, lease_records, records_for}
 use Rattle.leased_log.specs.Acts.{ActsBy}
-use Rattle.leased_log.specs.Loads.{FailsToLoad}
 use Rattle.tablet_records.specs.Keeps.{PathFits}
 use Rattle.tablet_core.specs.Fitting.{HoldsFitting}
 

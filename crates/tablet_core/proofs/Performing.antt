@@ -1,5 +1,5 @@
 -- What is done leaves the tablet standing for its entries with one more.
-use Rattle.std.proofs.Common.{◌≡◌, ℕ, ◌≤◌, ◌⊎◌, inl, inr, suc, Bool, true, false, List, [], ◌∷◌, ◌++◌, length, Option, Some, None, refl, sym, ap, subst, ◌∙◌, arith}
+use Rattle.std.proofs.Common.{◌≡◌, ℕ, ◌≤◌, suc, List, [], ◌∷◌, ◌++◌, length, Option, Some, None, refl, sym, ap, subst, ◌∙◌, arith}
 use Rattle.std.specs.Prelude.{option_to_list, Result, Ok, Err, OnErr}
 use Rattle.std.specs.List.{fold}
 use Rattle.docdb_outside.specs.Count.{Rose}
@@ -24,13 +24,12 @@ use Rattle.txn_types.specs.Machine.{reading_used, Advances}
 use Rattle.safe_time.specs.declared.step.Step.{Step}
 use Rattle.safe_time.specs.ActorClock.{ClockState}
 use Rattle.log_record.specs.declared.log_record.LogRecord.{LogRecord}
-use Rattle.tablet_log.specs.Frames.{frames}
 use Rattle.tablet_log.specs.Entries.{logged_records}
 use Rattle.tablet_log.specs.Replay.{TabletState, tablet_after, tablet_at_first, tablet_of}
 use Rattle.leased_log.specs.Stands as log
 use Rattle.leased_log.specs.Stands.{LogState, IsSame, StandsStill}
-use Rattle.leased_log.specs.Decides.{time_of, lease_of, lease_records, records_for, IsTold, Decides, Done, entry}
-use Rattle.leased_log.specs.Acts.{SameCounts, Acts, ActsBy, reply_by, clock_after}
+use Rattle.leased_log.specs.Decides.{lease_of, lease_records, records_for, IsTold, Decides, Done, entry}
+use Rattle.leased_log.specs.Acts.{SameCounts, ActsBy, reply_by, clock_after}
 use Rattle.leased_log.specs.declared.decision.Decision.{Decision}
 use Rattle.leased_log.proofs.Parts.{down_same, none_of_or}
 use Rattle.leased_log.proofs.Holding.{holds_after, acts_loads, acts_faults}

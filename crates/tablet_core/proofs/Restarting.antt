@@ -1,14 +1,12 @@
 -- A restart gives what the records stand for.
-use Rattle.std.proofs.Common.{◌≡◌, ℕ, ◌↔◌, Bool, true, List, ◌∷◌, ◌++◌, Option, Some, None, refl, sym, ap, subst, ◌∙◌}
+use Rattle.std.proofs.Common.{◌≡◌, ℕ, ◌↔◌, Bool, true, List, ◌∷◌, ◌++◌, None, refl, sym, ap, subst, ◌∙◌}
 use Rattle.txn_data.specs.declared.actor.Actor.{Actor}
 use Rattle.txn_data.specs.declared.actor.Actor.TheVariants.{Tablet}
 use Rattle.txn_data.specs.declared.request.Request.TheVariants.{Restart}
 use Rattle.txn_data.specs.declared.version.Version.{Version}
 use Rattle.txn_types.specs.History.{History}
 use Rattle.txn_types.specs.Clock.{down_since}
-use Rattle.txn_types.specs.Tablet.{provisional, versions}
 use Rattle.safe_time.specs.ActorClock.{ClockState, restarted}
-use Rattle.log_record.specs.declared.log_record.LogRecord.{LogRecord}
 use Rattle.tablet_log.specs.Frames.{Holds, frames}
 use Rattle.tablet_log.specs.Replay.{TabletState, tablet_of, lease_in}
 use Rattle.leased_log.specs.Stands as log

@@ -1,37 +1,29 @@
 -- What the table says where the rows decide.
-use Rattle.std.proofs.Common.{◌≡◌, ℕ, Bool, true, false, cond, ◌||◌, ◌&&◌, List, [], ◌∷◌, Option, Some, None, Result, Ok, Err, refl, sym, ap, ◌∙◌}
-use Rattle.std.specs.Prelude.{is_some, option_to_list, IsTrue}
+use Rattle.std.proofs.Common.{◌≡◌, ℕ, Bool, ◌||◌, List, Option, Some, None, Result, Ok, refl, sym, ap, ◌∙◌}
+use Rattle.std.specs.Prelude.{is_some, option_to_list}
 use Rattle.doc_path.specs.Path.{Parts}
-use Rattle.std.specs.List.{All}
 use Rattle.txn_data.specs.Time.{takes_time}
-use Rattle.txn_data.specs.declared.actor.Actor.TheVariants.{Tablet}
 use Rattle.txn_data.specs.declared.request.Request.{Request}
 use Rattle.txn_data.specs.declared.request.Request.TheVariants as request
 use Rattle.txn_data.specs.declared.reply.Reply.{Reply}
 use Rattle.txn_data.specs.declared.reply.Reply.TheVariants as reply
-use Rattle.txn_data.specs.declared.refusal.Refusal.{Refusal}
-use Rattle.txn_data.specs.declared.refusal.Refusal.TheVariants as refusal
 use Rattle.txn_data.specs.declared.version.Version.{Version}
 use Rattle.txn_types.specs.History.{History}
 use Rattle.txn_types.specs.Lists.{or_zero}
 use Rattle.txn_types.specs.Run.{ReadingFits}
-use Rattle.txn_types.specs.Clock.{Answer, told_only, refused, logged, timed, down_since}
+use Rattle.txn_types.specs.Clock.{Answer, told_only, logged, timed, down_since}
 use Rattle.txn_types.specs.Tablet.{provisional, versions, write_answer, tablet_up, tablet_standing, tablet_answer}
 use Rattle.safe_time.specs.declared.step.Step.{Step}
 use Rattle.safe_time.specs.declared.clock_refusal.ClockRefusal.{ClockRefusal}
-use Rattle.safe_time.specs.declared.clock_refusal.ClockRefusal.TheVariants as clock_refusal
-use Rattle.safe_time.specs.ActorClock.{ClockState, kind_of, served, clock_of, answer_over, refusal_of}
+use Rattle.safe_time.specs.ActorClock.{ClockState, kind_of, served, clock_of, answer_over}
 use Rattle.log_record.specs.declared.log_record.LogRecord.{LogRecord}
 use Rattle.tablet_log.specs.Entries.{own_record}
-use Rattle.conflict_matrix.specs.declared.decision.Decision.{Decision as Meeting}
 use Rattle.conflict_matrix.specs.declared.decision.Decision.TheVariants as meeting
 use Rattle.conflict_matrix.specs.Decide.{decision}
-use Rattle.leased_log.specs.declared.decision.Decision.{Decision}
-use Rattle.leased_log.specs.Decides.{IsPlain, IsTold, answer_of}
+use Rattle.leased_log.specs.Decides.{IsPlain, IsTold}
 use Rattle.tablet_records.specs.Keeps.{Keeps, IsRead}
 use Rattle.tablet_core.specs.declared.tablet_core.TabletCore.{TabletCore}
 use Rattle.tablet_core.specs.Stands.{Stands}
-use Rattle.tablet_core.specs.Requests.{IsUpRequest, IsGood}
 use Rattle.tablet_core.specs.Rows.{Says, IsLoggable, IsRow}
 
 -- what the law on the clock of the tables says

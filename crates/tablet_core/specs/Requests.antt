@@ -1,5 +1,5 @@
 -- The requests that a tablet accepts.
-use Rattle.std.specs.Prelude.{ℕ, ◌&&◌, List, Option, IsTrue}
+use Rattle.std.specs.Prelude.{ℕ, ◌&&◌, Option, IsTrue}
 use Rattle.std.specs.List.{All}
 use Rattle.doc_path.specs.Path.{Parts}
 use Rattle.txn_data.specs.Time.{takes_time}
@@ -27,7 +27,7 @@ Accepts fits (request.Clean x) = Unit {0}
 Accepts fits request.Restart = Unit {0}
 Accepts fits asked = ⊥
 
--- a request of the table of a tablet, other than a restart, with the reading that it takes
+-- a request of the table of a tablet, other than a restart
 abbrev pub IsTabletRequest : Request → Type 0
 IsTabletRequest (request.ListWrite x path) = Unit {0}
 IsTabletRequest (request.Write meta number path op read seen fates) = Unit {0}
@@ -39,5 +39,6 @@ IsTabletRequest (request.Apply x at) = Unit {0}
 IsTabletRequest (request.Clean x) = Unit {0}
 IsTabletRequest asked = ⊥
 
+-- such a request, with the reading that it takes
 abbrev pub IsUpRequest : Option ℕ → Request → Type 0
 IsUpRequest reading asked = IsTabletRequest asked × IsPlain asked × ReadingFits (takes_time asked) reading

@@ -32,10 +32,6 @@ all_fit : (fits : Parts → Type 0) (ps : List Intent) → ((p : Intent) → Mem
 all_fit fits [] all = tt
 all_fit fits (p ∷ ps) all = (all p (inl refl), all_fit fits ps (λ i m. all i (inr m)))
 
--- no writes
-pub none_fit : (fits : Parts → Type 0) (s : Intents) → Holds s [] → StandFitting fits s
-none_fit fits s holds = record { writes = []; stand = holds; fit = λ p m. absurd m }
-
 -- one more, or the same
 pub added_fit : {A E : Type 0} (fits : Parts → Type 0) (old new : Intents) (q : Intent) (r : Result A E) → StandFitting fits old → fits q.path
     → ((ps : List Intent) → Holds old ps → OnOk r (Holds new (ps ++ q ∷ []))) → ((ps : List Intent) → Holds old ps → OnErr r (Holds new ps)) → StandFitting fits new

@@ -1,4 +1,4 @@
-use Rattle.std.proofs.Common.{◌≡◌, [], Option, None, ap, sym, subst}
+use Rattle.std.proofs.Common.{◌≡◌, [], Option, ap, sym, subst}
 use Rattle.std.specs.Prelude.{IfOk}
 use Rattle.std.specs.Option.{option_copied}
 use Rattle.txn_data.specs.declared.place.Place.{Place}

@@ -1,5 +1,4 @@
-use Rattle.std.proofs.Common.{◌≡◌, Option, None, ap, sym, subst}
-use Rattle.txn_data.specs.declared.row.Row.{Row}
+use Rattle.std.proofs.Common.{◌≡◌, Option, sym, subst}
 use Rattle.session_core.specs.Opened.{opened_if}
 use Rattle.session_core.specs.Work.{shown, scanned}
 use Rattle.session_core.specs.declared.opened.Opened.{Opened as Open}

@@ -1,24 +1,23 @@
-use Rattle.std.proofs.Common.{◌≡◌, ℕ, ◌+◌, true, Option, Some, None, refl, sym, ap, ◌∙◌, subst}
-use Rattle.std.specs.Prelude.{List, Err, IfOk}
+use Rattle.std.proofs.Common.{◌≡◌, true, Option, Some, refl, sym, ap, ◌∙◌, subst}
+use Rattle.std.specs.Prelude.{List, Err}
 use Rattle.hybrid_time.specs.Time.{least_time}
 use Rattle.txn_data.specs.declared.tablet_limit.TabletLimit.{TabletLimit}
 use Rattle.txn_data.specs.declared.actor.Actor.TheVariants.{Session}
-use Rattle.txn_data.specs.declared.event.Event.TheVariants as event
 use Rattle.txn_data.specs.declared.told.Told.{Told}
 use Rattle.txn_data.specs.declared.told.Told.TheVariants as told
 use Rattle.txn_data.specs.declared.told_refusal.ToldRefusal.TheVariants as told_refusal
 use Rattle.txn_types.specs.Program.{Program, Tell, turn, turn_with, with_reading}
-use Rattle.txn_types.specs.Run.{Mover, mover_after, limits_of}
+use Rattle.txn_types.specs.Run.{Mover, limits_of}
 use Rattle.session_core.specs.Core.{mover, turned, gave_up, Answered, Went, of_work}
 use Rattle.session_core.specs.Kept.{keeps, who}
-use Rattle.session_core.specs.Mover.{between, within, mover_on}
+use Rattle.session_core.specs.Mover.{within, mover_on}
 use Rattle.session_core.specs.Turn.{turn_of}
-use Rattle.session_core.specs.Work.{work_rest, timed, limits_now, is_reading, takes_room}
+use Rattle.session_core.specs.Work.{work_rest, limits_now, is_reading, takes_room}
 use Rattle.session_core.specs.declared.turn.Turn.{Turn as Made}
 use Rattle.session_core.specs.declared.under_way.UnderWay.{UnderWay}
 use Rattle.session_core.specs.declared.work.Work.{Work}
 use Rattle.session_core.specs.declared.work.Work.TheVariants as work
-use Rattle.session_core.proofs.Answering.{same_of, answered_none, answered_given, lost_within, read}
+use Rattle.session_core.proofs.Answering.{answered_given}
 use Rattle.session_core.proofs.Timed.{timed_turn, timed_range}
 use Rattle.session_core.proofs.Programs.{must_lose}
 use Rattle.session_core.proofs.session_core.SessionCore.given.Goals as goal

@@ -1,4 +1,4 @@
-use Rattle.std.proofs.Common.{◌≡◌, ℕ, Option, Some, None, refl, sym, ap, ◌∙◌, subst}
+use Rattle.std.proofs.Common.{◌≡◌, ℕ, Option, None, sym, ap, ◌∙◌, subst}
 use Rattle.txn_data.specs.declared.actor.Actor.TheVariants.{Session}
 use Rattle.txn_data.specs.declared.event.Event.TheVariants as event
 use Rattle.txn_data.specs.declared.told.Told.{Told}
@@ -7,7 +7,6 @@ use Rattle.txn_data.specs.declared.told_refusal.ToldRefusal.TheVariants as told_
 use Rattle.txn_types.specs.Lists.{or_else}
 use Rattle.txn_types.specs.Program.{turn}
 use Rattle.txn_types.specs.Run.{Mover, mover_after}
-use Rattle.txn_types.specs.Session.{Keeps}
 use Rattle.session_core.specs.Core.{mover, went}
 use Rattle.session_core.specs.Kept.{keeps, who}
 use Rattle.session_core.specs.Mover.{within}

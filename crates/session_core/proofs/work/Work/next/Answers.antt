@@ -1,4 +1,4 @@
-use Rattle.std.proofs.Common.{◌≡◌, refl, sym, ap, ◌∙◌, subst}
+use Rattle.std.proofs.Common.{◌≡◌, sym, ap, subst}
 use Rattle.txn_types.specs.Program.{Reading, turn}
 use Rattle.session_core.specs.Work.{work_rest, is_reading}
 use Rattle.session_core.specs.declared.work.Work.{Work}

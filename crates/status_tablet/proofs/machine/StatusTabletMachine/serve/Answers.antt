@@ -1,5 +1,3 @@
-use Rattle.std.proofs.Common.{None}
-use Rattle.txn_data.specs.declared.request.Request.TheVariants as request
 use Rattle.status_tablet.proofs.Serving.{with_reading}
 use Rattle.status_tablet.proofs.machine.StatusTabletMachine.serve.Goals as goal
 

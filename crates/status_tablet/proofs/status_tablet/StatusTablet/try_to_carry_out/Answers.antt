@@ -1,4 +1,4 @@
-use Rattle.std.proofs.Common.{◌≡◌, Option, refl, ap, subst, ◌∙◌}
+use Rattle.std.proofs.Common.{Option, refl, ap, subst, ◌∙◌}
 use Rattle.log_record.specs.declared.log_record.LogRecord.{LogRecord}
 use Rattle.leased_log.specs.declared.decision.Decision.{Decision}
 use Rattle.std.specs.List.{AllByRecursion}

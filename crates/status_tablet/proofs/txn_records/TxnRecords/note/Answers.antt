@@ -1,4 +1,4 @@
-use Rattle.std.proofs.Common.{◌≡◌, ℕ, Some, None, ap, sym, ◌∙◌, cond, Bool, rules}
+use Rattle.std.proofs.Common.{ℕ, Some, ap, ◌∙◌, cond, Bool, rules}
 use Rattle.std.specs.BTreeMap.{BTreeMap}
 use Rattle.status_tablet.specs.declared.txn_record.TxnRecord.{TxnRecord}
 use Rattle.status_tablet.specs.Keeps.{kept_at, without}

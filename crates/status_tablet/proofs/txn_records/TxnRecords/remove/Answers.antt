@@ -1,4 +1,4 @@
-use Rattle.std.proofs.Common.{◌≡◌, None, ap, ◌∙◌, cond, Bool}
+use Rattle.std.proofs.Common.{None, ap, ◌∙◌, cond, Bool}
 use Rattle.status_tablet.specs.Keeps.{kept_at}
 use Rattle.status_tablet.proofs.Entries.{at_is}
 use Rattle.status_tablet.proofs.txn_records.TxnRecords.remove.Goals as goal

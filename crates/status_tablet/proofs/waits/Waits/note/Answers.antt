@@ -1,4 +1,4 @@
-use Rattle.std.proofs.Common.{◌≡◌, not, nat_eq, filter, ℕ, rules}
+use Rattle.std.proofs.Common.{not, nat_eq, ℕ, rules}
 use Rattle.std.proofs.lemmas.Fn.{filter_same}
 use Rattle.status_tablet.proofs.waits.Waits.note.Goals as goal
 

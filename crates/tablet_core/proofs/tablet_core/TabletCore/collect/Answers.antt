@@ -1,4 +1,4 @@
-use Rattle.std.proofs.Common.{None, Some, refl, rules}
+use Rattle.std.proofs.Common.{None, refl, rules}
 use Rattle.txn_data.specs.declared.request.Request.TheVariants as request
 use Rattle.tablet_core.proofs.Performing.{nothing_serves}
 use Rattle.tablet_core.proofs.tablet_core.TabletCore.collect.Goals as goal

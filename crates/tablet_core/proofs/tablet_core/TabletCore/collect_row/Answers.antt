@@ -1,5 +1,4 @@
 use Rattle.std.proofs.Common.{None, refl, sym, ap}
-use Rattle.txn_data.specs.declared.reply.Reply.{Reply}
 use Rattle.txn_data.specs.declared.request.Request.TheVariants as request
 use Rattle.txn_types.specs.Clock.{told_only}
 use Rattle.txn_types.specs.Tablet.{provisional, versions}
