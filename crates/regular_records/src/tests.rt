@@ -1,5 +1,5 @@
 //! Versions worked by hand. A text stands for the path of its parts between slashes.
-use crate::{Decided, MapVersions, Versions};
+use crate::{MapVersions, Versions};
 use doc_path::Path;
 use docdb_base::Seq;
 use hybrid_time::HybridTime;
@@ -91,7 +91,7 @@ fn gets_and_scans(rt: HostRuntime) -> Result<(), Fail> {
         let place = path(rt.alloc(), place)?;
         let t = time(micros)?;
         let got = value_text(rt.alloc(), versions.get_at(&place, t)?)?;
-        assert_eq!(rt; got.as_str(), value, "{text} {micros}");
+        assert_eq!(rt; got.as_str(), value);
         let mut told = String::new(rt.alloc());
         for row in versions.scan_at(&place, t)?.into_items() {
             if told.len() > 0 {
@@ -101,33 +101,31 @@ fn gets_and_scans(rt: HostRuntime) -> Result<(), Fail> {
             told.push('=')?;
             told.push_str(value_text(rt.alloc(), row.value)?.as_str())?;
         }
-        assert_eq!(rt; told.as_str(), rows, "{text} {micros}");
+        assert_eq!(rt; told.as_str(), rows);
     }
     Ok(())
 }
 
+/// Its commit time, its number, and how many parts its path has.
 #[test]
 fn tells_what_decides(rt: HostRuntime) -> Result<(), Fail> {
     let rows = [
-        ("k@10.3=a k/a@20.1=b", "k/a", 20, "20.1 2"),
-        ("k@10.3=a k/a@20.1=b", "k/a", 19, "10.3 1"),
-        ("k@10.3=a k/a@20.1=b", "k", 30, "10.3 1"),
-        ("k@10.3=a k/a@20.1=b", "k/b", 30, "10.3 1"),
-        ("k@10.3=a k/a@20.1=b", "k", 9, "-"),
-        ("k@10.3=a k/a@10.4=b", "k/a/x", 10, "10.4 2"),
-        ("k@10.4=- k/a@10.3=b", "k/a/x", 10, "10.4 1"),
+        ("k@10.3=a k/a@20.1=b", "k/a", 20, Some((20, 1, 2))),
+        ("k@10.3=a k/a@20.1=b", "k/a", 19, Some((10, 3, 1))),
+        ("k@10.3=a k/a@20.1=b", "k", 30, Some((10, 3, 1))),
+        ("k@10.3=a k/a@20.1=b", "k/b", 30, Some((10, 3, 1))),
+        ("k@10.3=a k/a@20.1=b", "k", 9, None),
+        ("k@10.3=a k/a@10.4=b", "k/a/x", 10, Some((10, 4, 2))),
+        ("k@10.4=- k/a@10.3=b", "k/a/x", 10, Some((10, 4, 1))),
     ];
-    for (text, place, micros, told) in rows {
+    for (text, place, micros, wanted) in rows {
         let versions = versions(rt.alloc(), text)?;
         let place = path(rt.alloc(), place)?;
-        let said = match versions.decided_at(&place, time(micros)?) {
-            None => format!(in rt.alloc(); "-")?,
-            Some(Decided { at, number, parts }) => {
-                let micros = at.micros();
-                format!(in rt.alloc(); "{micros}.{number} {parts}")?
-            }
+        let told = match versions.decided_at(&place, time(micros)?) {
+            None => None,
+            Some(found) => Some((found.at.micros(), found.number, found.parts)),
         };
-        assert_eq!(rt; said.as_str(), told, "{text} {micros}");
+        assert_eq!(rt; told, wanted);
     }
     Ok(())
 }
@@ -149,31 +147,31 @@ fn finds_the_newest_related(rt: HostRuntime) -> Result<(), Fail> {
             None => None,
             Some(at) => Some(at.micros()),
         };
-        assert_eq!(rt; told, newest, "{text} {micros}");
+        assert_eq!(rt; told, newest);
     }
     Ok(())
 }
 
-/// The paths asked, the read time, the end of the window and the local limit.
+/// The paths asked, the read time, the end of the window and the local limit; the commit time that is met, and its path.
 #[test]
 fn meets_in_a_window(rt: HostRuntime) -> Result<(), Fail> {
     let rows = [
-        ("k@10.0=a", "k", 5, 20, 20, "10 k"),
-        ("k@10.0=a", "k", 10, 20, 20, "-"),
-        ("k@10.0=a", "k", 5, 9, 20, "-"),
-        ("k@10.0=a", "k", 5, 10, 20, "10 k"),
+        ("k@10.0=a", "k", 5, 20, 20, 10, "k"),
+        ("k@10.0=a", "k", 10, 20, 20, 0, ""),
+        ("k@10.0=a", "k", 5, 9, 20, 0, ""),
+        ("k@10.0=a", "k", 5, 10, 20, 10, "k"),
         // The local limit is for the provisional time, and not for the commit time.
-        ("k@15.0=a:10", "k", 5, 20, 9, "-"),
-        ("k@15.0=a:10", "k", 5, 20, 10, "15 k"),
-        ("k@15.0=a:12 k@12.0=b:8", "k", 5, 20, 10, "12 k"),
+        ("k@15.0=a:10", "k", 5, 20, 9, 0, ""),
+        ("k@15.0=a:10", "k", 5, 20, 10, 15, "k"),
+        ("k@15.0=a:12 k@12.0=b:8", "k", 5, 20, 10, 12, "k"),
         // The greatest time, and with it the least path.
-        ("k/b@10.0=a k/a@10.0=b k/c@9.0=c", "k", 5, 20, 20, "10 k/a"),
-        ("k/b@10.0=a k@10.0=b", "k/b", 5, 20, 20, "10 k"),
-        ("m@10.0=a k@10.0=b", "m k", 5, 20, 20, "10 k"),
-        ("m@11.0=a k@10.0=b", "k m", 5, 20, 20, "11 m"),
-        ("m@11.0=a k@10.0=b", "j", 5, 20, 20, "-"),
+        ("k/b@10.0=a k/a@10.0=b k/c@9.0=c", "k", 5, 20, 20, 10, "k/a"),
+        ("k/b@10.0=a k@10.0=b", "k/b", 5, 20, 20, 10, "k"),
+        ("m@10.0=a k@10.0=b", "m k", 5, 20, 20, 10, "k"),
+        ("m@11.0=a k@10.0=b", "k m", 5, 20, 20, 11, "m"),
+        ("m@11.0=a k@10.0=b", "j", 5, 20, 20, 0, ""),
     ];
-    for (text, places, micros, g, limit, met) in rows {
+    for (text, places, micros, g, limit, met, met_path) in rows {
         let versions = versions(rt.alloc(), text)?;
         let mut asked = Paths::new(rt.alloc());
         for place in places.split_whitespace() {
@@ -183,15 +181,14 @@ fn meets_in_a_window(rt: HostRuntime) -> Result<(), Fail> {
             g: time(g)?,
             limit: time(limit)?,
         };
-        let told = match versions.window(&asked, time(micros)?, &window)? {
-            None => format!(in rt.alloc(); "-")?,
+        match versions.window(&asked, time(micros)?, &window)? {
+            None => assert_eq!(rt; met, 0),
             Some(found) => {
-                let micros = found.at.micros();
-                let place = path_text(rt.alloc(), &found.path)?;
-                format!(in rt.alloc(); "{micros} {place}")?
+                assert_eq!(rt; found.at.micros(), met);
+                let told = path_text(rt.alloc(), &found.path)?;
+                assert_eq!(rt; told.as_str(), met_path);
             }
-        };
-        assert_eq!(rt; told.as_str(), met, "{text}");
+        }
     }
     Ok(())
 }
