@@ -4,7 +4,7 @@ use crate::not_read::NotRead;
 use crate::terms::{path_of, read_actor, value_of};
 use crate::words::Words;
 use std::alloc::Global;
-use txn_types::{Bytes, Command, Place};
+use txn_types::{Actor, Bytes, Command, Place};
 
 /// The command that the words of a line spell.
 pub fn read_command(alloc: Global, mut words: Words) -> Result<Command, NotRead> {
@@ -34,7 +34,7 @@ fn with_numbers(name: &[u8], words: &mut Words) -> Result<Command, NotRead> {
             priority: words.small()?,
         }),
         b"restart" => Ok(Command::Restart {
-            actor: read_actor(words.next()?)?,
+            actor: machine(words.next()?)?,
         }),
         b"apply" => Ok(Command::Apply {
             tablet: words.small()?,
@@ -44,6 +44,14 @@ fn with_numbers(name: &[u8], words: &mut Words) -> Result<Command, NotRead> {
             micros: words.number()?,
         }),
         _ => Err(NotRead::Form),
+    }
+}
+
+// A tablet or a status tablet.
+fn machine(word: &[u8]) -> Result<Actor, NotRead> {
+    match read_actor(word)? {
+        Actor::Session(_) | Actor::Applier(_) => Err(NotRead::Form),
+        actor => Ok(actor),
     }
 }
 
