@@ -1,7 +1,7 @@
 //! The words of the lines by which one actor is asked and answers.
 //!
 //! `Words` goes over the words of a line, and `read_request`, `read_reply` and `read_command` read what they spell. `Line`
-//! puts the words of requests, replies and what is told behind one another. What is not of the form and want of memory are
+//! puts the words of requests, replies and what is told behind one another. What is not of the form and out of memory are
 //! two refusals.
 #![tactic(auto)]
 

@@ -10,7 +10,7 @@ use std::alloc::AllocError;
 pub enum NotRead {
     /// They are not of the form.
     Form,
-    /// Want of memory.
+    /// Out of memory.
     Memory,
 }
 

@@ -43,7 +43,7 @@ impl DocKey {
         append_group(self.range.items(), out)
     }
 
-    /// Appends the spelling of the key. After want of memory `out` is as before.
+    /// Appends the spelling of the key. If memory runs out, `out` is as before.
     pub fn encode(&self, out: &mut Vec<u8>) -> Result<(), Memory>
         requires { IsTrue (has_spelling self.now) }
         ensures ok { OnOk result (out.new.items ≡ out.old.items ++ spelling self.now) }

@@ -65,7 +65,7 @@ impl Primitive {
         Ok(())
     }
 
-    /// Appends the spelling of the value. After want of memory `out` is as before.
+    /// Appends the spelling of the value. If memory runs out, `out` is as before.
     pub fn encode(&self, out: &mut Vec<u8>) -> Result<(), Memory>
         requires { IsTrue (has_spelling self.now) }
         ensures ok { OnOk result (out.new.items ≡ out.old.items ++ spelling self.now) }

@@ -3,6 +3,8 @@ ghost use Rattle.std.specs.Prelude.{◌≡◌};
 ghost use Rattle.doc_value.specs.declared.key_refusal.KeyRefusal.TheVariants.{Memory};
 
 use std::alloc::{AllocError, AllocFailed};
+use std::error::Error;
+use std::fmt;
 
 /// Why bytes are no key or value: the first fault from the left, and the offset of its byte.
 #[derive(Clone, Copy, Debug, PartialEq, Eq)]
@@ -21,7 +23,7 @@ pub enum KeyRefusal {
     TooLong { at: u64 },
     /// The first byte after a whole spelling.
     Spare { at: u64 },
-    /// Want of memory.
+    /// Out of memory.
     Memory,
 }
 
@@ -40,3 +42,20 @@ impl<T: Drop> From<AllocFailed<T>> for KeyRefusal {
         KeyRefusal::Memory
     }
 }
+
+impl fmt::Display for KeyRefusal {
+    fn fmt<W: fmt::Write>(&self, f: &mut fmt::Formatter<W>) -> fmt::Result {
+        match self {
+            KeyRefusal::BadTag { at } => write!(f, "a tag that may not stand at byte {at}"),
+            KeyRefusal::Truncated { at } => write!(f, "the bytes end before byte {at}"),
+            KeyRefusal::BadText { at } => write!(f, "a byte of a text that may not stand at byte {at}"),
+            KeyRefusal::BadHash { at } => write!(f, "the hash at byte {at} is not that of the columns"),
+            KeyRefusal::TooMany { at } => write!(f, "a ninth column or a fifth subkey at byte {at}"),
+            KeyRefusal::TooLong { at } => write!(f, "a text of more than 256 bytes at byte {at}"),
+            KeyRefusal::Spare { at } => write!(f, "a spare byte at byte {at}"),
+            KeyRefusal::Memory => f.write_str("out of memory"),
+        }
+    }
+}
+
+impl Error for KeyRefusal {}

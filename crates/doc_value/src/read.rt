@@ -1,5 +1,5 @@
 //! The value that bytes spell.
-ghost use Rattle.std.specs.Prelude.{◌≡◌, ◌<◌, ◌≤◌, ◌++◌, Ok, List, ℕ, length, IfOk, IsTrue};
+ghost use Rattle.std.specs.Prelude.{◌≡◌, ◌<◌, ◌≤◌, ◌++◌, Ok, List, ℕ, length, IfOk, IsErrOf, IsTrue};
 ghost use Rattle.std.specs.Int.{w32, w64};
 ghost use Rattle.doc_value.specs.Spelling.{spelling, has_spelling, IsInRange};
 ghost use Rattle.doc_value.specs.Reading.{Gives, number_at, text_at, int_at, column_id_at, string_at, value_at, value_of};
@@ -15,6 +15,7 @@ use std::alloc::Global;
 /// `whole` bytes, as in [`read_value`]. It takes no memory.
 pub fn read_u32(whole: usize, bytes: &[u8]) -> Result<(u32, &[u8]), KeyRefusal>
     ensures value { Gives (λ x. (x.0, x.1.now)) result (number_at w32 whole bytes.now) }
+    ensures takes_no_memory { ¬ IsErrOf result KeyRefusal.Memory }
     ensures rest { IfOk result (λ x. length x.1.now ≤ length bytes.now) }
 {
     if bytes.len() < 4 {
@@ -28,6 +29,7 @@ pub fn read_u32(whole: usize, bytes: &[u8]) -> Result<(u32, &[u8]), KeyRefusal>
 /// The number of 64 bits at the front of `bytes`, as [`read_u32`] reads one of 32 bits.
 pub fn read_u64(whole: usize, bytes: &[u8]) -> Result<(u64, &[u8]), KeyRefusal>
     ensures value { Gives (λ x. (x.0, x.1.now)) result (number_at w64 whole bytes.now) }
+    ensures takes_no_memory { ¬ IsErrOf result KeyRefusal.Memory }
     ensures rest { IfOk result (λ x. length x.1.now ≤ length bytes.now) }
 {
     if bytes.len() < 8 {

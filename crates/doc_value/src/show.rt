@@ -63,7 +63,7 @@ impl Primitive {
         }
     }
 
-    /// Appends the text of the value, as a script and a report show it. After want of memory `out` is as before.
+    /// Appends the text of the value, as a script and a report show it. If memory runs out, `out` is as before.
     pub fn text(&self, out: &mut Vec<u8>) -> Result<(), Memory>
         ensures ok { OnOk result (out.new.items ≡ out.old.items ++ shown self.now) }
         ensures memory { OnErr result (out.new.items ≡ out.old.items) }

@@ -81,7 +81,7 @@ fn is_remark(line: &[u8]) -> bool {
     }
 }
 
-// Puts why a line does not reach an actor at its end. Want of memory ends the program.
+// Puts why a line does not reach an actor at its end. Out of memory ends the program.
 fn put_why(text: &mut Line, why: Unanswered) -> Result<(), Memory> {
     text.word(b"=>")?;
     match why {

@@ -11,7 +11,7 @@ pub enum Unanswered {
     NotAwaited,
     /// No actor is open.
     NoActor,
-    /// Want of memory.
+    /// Out of memory.
     Memory,
 }
 

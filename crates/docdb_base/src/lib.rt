@@ -1,4 +1,4 @@
-//! The list type that contracts see as its items, the trait for copies that may find no memory, and
+//! The list type that contracts see as its items, the trait for copies that may run out of memory, and
 //! the generator of numbers.
 #![tactic(auto)]
 
@@ -12,5 +12,5 @@ pub use generator::Generator;
 pub use seq::Seq;
 pub use try_copy::TryCopy;
 
-/// Want of memory.
+/// Out of memory.
 pub type Memory = std::alloc::AllocError;

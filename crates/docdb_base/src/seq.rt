@@ -56,7 +56,7 @@ impl<T> Seq<T> {
 }
 
 impl<T: Drop> Seq<T> {
-    /// Puts an item at the end. After want of memory the list is as before.
+    /// Puts an item at the end. If memory runs out, the list is as before.
     pub fn push(&mut self, item: T) -> Result<(), Memory>
         ensures ok { OnOk result (self.new ≡ self.old ++ item ∷ []) }
         ensures memory { OnErr result (self.new ≡ self.old) }
@@ -67,10 +67,10 @@ impl<T: Drop> Seq<T> {
 
 impl<T: TryCopy + Drop> TryCopy for Seq<T> {
     fn try_copy(&self, alloc: Global) -> Result<Seq<T>, Memory> {
-        let mut copy = Seq::new(alloc);
+        let mut items = Vec::with_capacity(alloc, self.items.len())?;
         for item in self.items() {
-            copy.push(item.try_copy(alloc)?)?;
+            items.push(item.try_copy(alloc)?)?;
         }
-        Ok(copy)
+        Ok(Seq { items })
     }
 }

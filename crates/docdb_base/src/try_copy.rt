@@ -1,4 +1,4 @@
-//! Copies that may find no memory.
+//! Copies that may run out of memory.
 ghost use Rattle.std.specs.Prelude.{◌≡◌, IfOk};
 
 use crate::Memory;

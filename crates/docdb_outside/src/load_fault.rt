@@ -3,13 +3,15 @@ ghost use Rattle.std.specs.Prelude.{◌≡◌};
 ghost use Rattle.docdb_outside.specs.declared.load_fault.LoadFault.TheVariants.{Memory};
 
 use std::alloc::AllocError;
+use std::error::Error;
+use std::fmt;
 
 /// Why a log is not loaded.
 #[derive(Clone, Copy, Debug, PartialEq, Eq)]
 pub enum LoadFault {
     /// The outside failed.
     Failed,
-    /// Want of memory.
+    /// Out of memory.
     Memory,
 }
 
@@ -20,3 +22,14 @@ impl From<AllocError> for LoadFault {
         LoadFault::Memory
     }
 }
+
+impl fmt::Display for LoadFault {
+    fn fmt<W: fmt::Write>(&self, f: &mut fmt::Formatter<W>) -> fmt::Result {
+        f.write_str(match self {
+            LoadFault::Failed => "the outside failed",
+            LoadFault::Memory => "out of memory",
+        })
+    }
+}
+
+impl Error for LoadFault {}

@@ -20,7 +20,7 @@ pub trait LogStore {
     /// How often the log was loaded. The count never falls, and stands still at 2^64 - 1.
     ghost loads: { Self → ℕ };
 
-    /// Makes room for this many more bytes. After want of memory all is as before.
+    /// Makes room for this many more bytes. If memory runs out, all is as before.
     fn make_room(&mut self, bytes: usize) -> Result<(), Memory>
         ensures ok { OnOk result (bytes ≤ room self.new) }
         ensures memory { OnErr result (room self.new ≡ room self.old) }

@@ -15,8 +15,8 @@ use Rattle.txn_data.specs.declared.refusal.Refusal.TheVariants as refusal
 use Rattle.txn_types.specs.Lists.{Member, rising}
 use Rattle.txn_types.specs.History.{History, own}
 use Rattle.txn_types.specs.Tablet.{greatest_fate, provisional}
-use Rattle.txn_types.specs.BeforeLogs.{as_logged}
-use Rattle.txn_types.specs.Cause.{ToldAt, ServedAt, tells, served_since, Cause, CounterEnded, needs_time, floor_of}
+use Rattle.docdb_run.specs.BeforeLogs.{as_logged}
+use Rattle.txn_types.specs.Cause.{ToldAt, ServedAt, tells, served_since, Cause, CounterEnded, needs_time, floor_asked}
 use Rattle.docdb_run.specs.Form.{cluster, IsFormLine, AreFormLines, IsForm}
 use Rattle.docdb_run.specs.Course.{Course, one, t0, tablet_time, course_after, entries_of, entries_from, at_first, single_time}
 use Rattle.docdb_run.proofs.Inv.{Inv}
@@ -58,7 +58,7 @@ pub needs_single : (k : Course) (path : Parts) (v : List ℕ) (h : History) → 
 unfolding rising
 needs_single k path v h none = rw none refl
 
-pub asks_floor : (k : Course) (path : Parts) (v : List ℕ) → floor_of (single_of k path v) ≡ Some k.session
+pub asks_floor : (k : Course) (path : Parts) (v : List ℕ) → floor_asked (single_of k path v) ≡ Some k.session
 unfolding greatest_fate
 asks_floor k path v = ap (λ (n : ℕ). Some n) (max_zero k.session)
 

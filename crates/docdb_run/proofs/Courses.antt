@@ -11,7 +11,7 @@ use Rattle.txn_types.specs.Plan.{IsCluster, IsPlace, IsShort}
 use Rattle.txn_types.specs.Clock.{last_time, has_given, lease_over, down_since, has_failed}
 use Rattle.txn_types.specs.Tablet.{provisional_over, versions_over}
 use Rattle.txn_types.specs.Run.{Run, Steps, mover_at, flight}
-use Rattle.txn_types.specs.BeforeLogs.{as_logged}
+use Rattle.docdb_run.specs.BeforeLogs.{as_logged}
 use Rattle.docdb_run.specs.Form.{cluster, IsFormLine, AreFormLines, IsForm, clock_after}
 use Rattle.docdb_run.specs.Course.{Course, at_first, entries_of, course_after, entries_from, pass_entries, all_entries, single_time, after_single, after_read, after_clock}
 use Rattle.docdb_run.proofs.Inv.{Inv}

@@ -12,7 +12,7 @@ use Rattle.txn_data.specs.declared.told.Told.TheVariants as told
 use Rattle.txn_data.specs.declared.entry.Entry.{Entry}
 use Rattle.txn_types.specs.History.{History, same_actor}
 use Rattle.txn_types.specs.Run.{Steps}
-use Rattle.txn_types.specs.BeforeLogs.{as_logged}
+use Rattle.docdb_run.specs.BeforeLogs.{as_logged}
 use Rattle.txn_types.specs.Script.{lines, line_by, commands_of, Follows}
 use Rattle.docdb_run.specs.Form.{Accepted, Later, form_of, plan_of, cluster, most_bytes, IsForm}
 use Rattle.docdb_run.specs.Text.{text_of, report_text}
@@ -150,7 +150,7 @@ ends_read c failed wrote empty = inr (inr (inr (inr (inl (refl, failed, wrote, e
 pub ends_script : (c : Call) (line : ℕ) → ScriptRefused c line → Wrote c (refused_script line) → c.entries ≡ [] → Ends 1 c
 ends_script c line refused wrote empty = inr (inl (refl, (line, refused, wrote, empty)))
 
--- want of memory before anything is recorded, and in the middle of a run
+-- out of memory before anything is recorded, and in the middle of a run
 pub ends_before : (c : Call) → Wrote c [] → c.entries ≡ [] → Ends 3 c
 ends_before c nothing empty = inr (inr (inr (inl (
   refl,

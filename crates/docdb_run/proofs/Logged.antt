@@ -16,7 +16,7 @@ use Rattle.txn_types.specs.Lists.{or_zero}
 use Rattle.txn_types.specs.History.{History, own}
 use Rattle.txn_types.specs.Clock.{Answer}
 use Rattle.txn_types.specs.Run.{machine_answer}
-use Rattle.txn_types.specs.BeforeLogs.{as_logged, logged_event}
+use Rattle.docdb_run.specs.BeforeLogs.{as_logged, logged_event}
 use Rattle.docdb_run.specs.Form.{cluster}
 use Rattle.docdb_run.specs.Course.{Course, one, t0, applier, by, single_time, single_id, read_time, read_window, tablet_time}
 use Rattle.docdb_run.proofs.TabletState.{answer_list, answer_single, answer_listed, answer_collected, answer_intents, single_answer, append_due, is_due}

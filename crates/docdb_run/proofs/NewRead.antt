@@ -12,7 +12,7 @@ use Rattle.txn_types.specs.Lists.{Member, or_zero, or_else}
 use Rattle.txn_types.specs.History.{History}
 use Rattle.txn_types.specs.Committed.{fold_of}
 use Rattle.txn_types.specs.Run.{Mover, mover_at}
-use Rattle.txn_types.specs.Reads.{Read, reads, before_start, reading_after, reading_by, met_since, met_of, start_of, line_of, inside, txn_of, origin, origin_under, own_reading, own_time, final_time, last_met, time_unmet, rows_asked}
+use Rattle.txn_types.specs.Reads.{Read, reads, before_start, reading_after, reading_by, met_since, met_of, start_of, line_of, inside, open_txn, origin, origin_under, own_reading, own_time, final_time, last_met, time_unmet, rows_asked}
 use Rattle.docdb_run.specs.Form.{cluster}
 use Rattle.docdb_run.specs.Course.{Course, one, read_time, row_at, after_read, writes_of}
 use Rattle.docdb_run.proofs.Inv.{between}
@@ -44,8 +44,8 @@ line_is k path strict h = refl
 pub inside_is : (k : Course) (path : Parts) (strict : Bool) (h : History) → mover_at cluster one h ≡ between k →
     inside cluster (new_read k path strict h) ≡ None
 inside_is k path strict h is =
-    ap (λ (g : History). txn_of (mover_at cluster one g).keeps.opened) (start_is k path strict h)
-    ∙ ap (λ (m : Mover). txn_of m.keeps.opened) is
+    ap (λ (g : History). open_txn (mover_at cluster one g).keeps.opened) (start_is k path strict h)
+    ∙ ap (λ (m : Mover). open_txn m.keeps.opened) is
 
 pub origin_is : (k : Course) (path : Parts) (strict : Bool) (h : History) → mover_at cluster one h ≡ between k →
     origin cluster (new_read k path strict h) ≡ h

@@ -5,7 +5,7 @@ use Rattle.txn_data.specs.declared.event.Event.{Event}
 use Rattle.txn_data.specs.declared.event.Event.TheVariants.{Start, Ask, Serve, Hear, Tell, Restarted}
 use Rattle.txn_types.specs.History.{History, same_actor}
 use Rattle.txn_types.specs.Run.{Mover, mover_at, mover_after, idle}
-use Rattle.txn_types.specs.BeforeLogs.{as_logged, logged_event}
+use Rattle.docdb_run.specs.BeforeLogs.{as_logged, logged_event}
 use Rattle.docdb_run.specs.Form.{cluster}
 use Rattle.docdb_run.specs.Course.{Course, one, applier}
 use Rattle.docdb_run.proofs.Inv.{Inv, between}

@@ -11,7 +11,7 @@ use Rattle.txn_data.specs.declared.command.Command.TheVariants as command
 use Rattle.txn_types.specs.Lists.{Member}
 use Rattle.txn_types.specs.History.{History}
 use Rattle.txn_types.specs.Run.{mover_at}
-use Rattle.txn_types.specs.BeforeLogs.{as_logged}
+use Rattle.docdb_run.specs.BeforeLogs.{as_logged}
 use Rattle.txn_types.specs.Reads.{Read, reads, IsFinal, Right, Steady}
 use Rattle.docdb_run.specs.Form.{cluster, IsFormLine, AreFormLines, IsForm}
 use Rattle.docdb_run.specs.Course.{Course, at_first, one, entries_of, course_after, entries_from, read_time, single_id, single_time, after_single, after_read, after_clock}

@@ -21,7 +21,7 @@ use Rattle.txn_data.specs.declared.event.Event.TheVariants.{Serve}
 use Rattle.txn_data.specs.declared.entry.Entry.{Entry}
 use Rattle.txn_types.specs.Lists.{sorted_by, rising}
 use Rattle.txn_types.specs.History.{History, was_logged}
-use Rattle.txn_types.specs.Clock.{Answer, told_only, refused, logged, time_refused, timed_answer, holds, lease_end, lease_over, lease_due, has_given, last_time, down_since, down_after, has_failed}
+use Rattle.txn_types.specs.Clock.{Answer, told_only, refusal_answer, logged, time_refused, timed_answer, holds, lease_end, lease_over, lease_due, has_given, last_time, down_since, down_after, has_failed}
 use Rattle.txn_types.specs.Tablet.{provisional, provisional_over, versions, versions_over, tablet_answer, greatest_fate, rows_of}
 use Rattle.docdb_run.specs.Course.{version_of, writes_of}
 use Rattle.docdb_run.proofs.Counting.{AllServe, counting_is}
@@ -78,7 +78,7 @@ answer_intents h last vs reading s = rw (s.down, provisional_none h last vs s) r
 -- a Single takes the next time
 abbrev pub single_answer : Result ℕ TimeRefusal → Answer
 single_answer (Ok c) = logged false true (Some c) (reply.SingleDone c)
-single_answer (Err e) = refused (time_refused e)
+single_answer (Err e) = refusal_answer (time_refused e)
 
 pub timed_single : (end : Option ℕ) (time : Result ℕ TimeRefusal) →
     timed_answer lease end false true time (λ c. reply.SingleDone c) ≡ single_answer time

@@ -16,7 +16,7 @@ use Rattle.txn_data.specs.declared.session_plan.SessionPlan.{SessionPlan}
 use Rattle.txn_data.specs.declared.entry.Entry.{Entry}
 use Rattle.txn_types.specs.History.{History, same_actor}
 use Rattle.txn_types.specs.Run.{Mover, mover_at}
-use Rattle.txn_types.specs.BeforeLogs.{as_logged}
+use Rattle.docdb_run.specs.BeforeLogs.{as_logged}
 use Rattle.txn_types.specs.Reads.{reads, origin}
 use Rattle.txn_types.specs.Script.{from_up}
 use Rattle.txn_types.specs.Cause.{ToldAt, tells}

@@ -1,3 +1,4 @@
+pub mod BeforeLogs
 pub mod Form
 pub mod Text
 pub mod Course

@@ -6,7 +6,7 @@ use Rattle.txn_data.specs.declared.entry.Entry.{Entry}
 use Rattle.txn_types.specs.Lists.{Member}
 use Rattle.txn_types.specs.History.{History}
 use Rattle.txn_types.specs.Run.{Run}
-use Rattle.txn_types.specs.BeforeLogs.{as_logged}
+use Rattle.docdb_run.specs.BeforeLogs.{as_logged}
 use Rattle.txn_types.specs.Reads.{Read, reads, IsFinal, Right, Steady}
 use Rattle.txn_types.specs.Script.{Follows, Whole, Scheduled}
 use Rattle.txn_types.specs.Cause.{ToldAt, tells, Cause}

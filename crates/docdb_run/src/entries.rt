@@ -33,7 +33,7 @@ pub fn tell(entries: &mut Entries, mover: Actor, command: u32, told: Told) -> Re
     entries.push(entry(mover, None, Event::Tell { command, told }))
 }
 
-/// Records entries in their order. After want of memory the first of them are recorded.
+/// Records entries in their order. If memory runs out, the first of them are recorded.
 pub fn record_all(trace: &mut Trace, entries: Entries) -> Result<(), Memory>
     ensures ok { OnOk result (trace.new.entries ≡ trace.old.entries ++ entries) }
     ensures memory { OnErr result ((n : ℕ) × (trace.new.entries ≡ trace.old.entries ++ take n entries)) }

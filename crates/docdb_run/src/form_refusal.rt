@@ -5,6 +5,6 @@
 pub enum FormRefusal {
     /// The line with this number is not of the form. Lines are counted from 1; 0 says that the script is too long.
     Later { line: u64 },
-    /// Want of memory.
+    /// Out of memory.
     Memory,
 }

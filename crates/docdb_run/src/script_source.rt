@@ -10,7 +10,7 @@ use std::alloc::Global;
 pub enum ReadRefusal {
     /// The source failed.
     Failed,
-    /// Want of memory.
+    /// Out of memory.
     Memory,
 }
 

@@ -14,7 +14,7 @@ use txn_types::{Actor, Command, Entries, Reply, Request, Told, Trace};
 const APPLIER: Actor = Actor::Applier(0);
 
 /// Runs commands of session 1 on tablet 0 and then a last pass: records the entries, and returns what the session is
-/// told, in order. After want of memory the first of the entries are recorded.
+/// told, in order. If memory runs out, the first of the entries are recorded.
 pub fn simulate(alloc: Global, commands: &[Command], trace: &mut Trace) -> Result<Vec<Told>, Memory>
     requires form { IsForm commands.now }
     requires empty { trace.old.entries ≡ [] }

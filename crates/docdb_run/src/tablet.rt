@@ -36,7 +36,7 @@ impl Tablet {
         next(self.last, seen, reading)
     }
 
-    /// Commits a single write at a time of the tablet's own. After want of memory the tablet is as before.
+    /// Commits a single write at a time of the tablet's own. If memory runs out, the tablet is as before.
     pub fn commit(
         &mut self,
         alloc: Global,

@@ -63,7 +63,7 @@ impl World {
         }
     }
 
-    /// Runs a command: records its entries, and returns what the session is told. After want of memory the first of its
+    /// Runs a command: records its entries, and returns what the session is told. If memory runs out, the first of its
     /// entries are recorded, and the world is not to be used again.
     pub fn run(&mut self, line: &Command, trace: &mut Trace) -> Result<Told, Memory>
         requires form { IsFormLine self.old.clock line.now }

@@ -4,6 +4,7 @@ ghost use Rattle.hybrid_time.specs.Time.{time_at, micros_of, logical_of};
 
 use docdb_base::{Memory, TryCopy};
 use std::alloc::Global;
+use std::fmt;
 use std::marker::Model;
 
 /// A hybrid time: microseconds in its upper 52 bits, a logical counter in its lower 12 bits. Contracts see the number.
@@ -49,6 +50,14 @@ impl HybridTime {
         ensures { result ≡ logical_of self }
     {
         (self.bits % 4096) as u16
+    }
+}
+
+impl fmt::Display for HybridTime {
+    fn fmt<W: fmt::Write>(&self, f: &mut fmt::Formatter<W>) -> fmt::Result {
+        let micros = self.micros();
+        let logical = self.logical();
+        write!(f, "{micros}.{logical}")
     }
 }
 

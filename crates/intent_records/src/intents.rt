@@ -46,7 +46,7 @@ impl Intents {
     }
 
     /// Adds the records of a write that became provisional at `wrote`, and is the `number`-th of its transaction. After
-    /// want of memory the records are as before.
+    /// out of memory the records are as before.
     pub fn add(
         &mut self,
         meta: &Meta,
@@ -227,7 +227,7 @@ impl Intents {
     }
 }
 
-// Adds a path to those of a transaction, and its metadata where it is the first. After want of memory both maps have what
+// Adds a path to those of a transaction, and its metadata where it is the first. If memory runs out, both maps have what
 // they had, where one has the transaction only where the other does.
 fn list(
     alloc: Global,

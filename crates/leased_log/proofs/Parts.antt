@@ -22,7 +22,7 @@ use Rattle.txn_data.specs.declared.event.Event.TheVariants.{Start, Ask, Serve, H
 use Rattle.txn_data.specs.declared.entry.Entry.{Entry}
 use Rattle.txn_types.specs.History.{History}
 use Rattle.txn_types.specs.Lists.{or_else, or_zero}
-use Rattle.txn_types.specs.Clock.{Answer, refused, logged, clock_time, holds, lease_due, lease_end, down_after, down_since, has_failed}
+use Rattle.txn_types.specs.Clock.{Answer, refusal_answer, logged, clock_time, holds, lease_due, lease_end, down_after, down_since, has_failed}
 use Rattle.safe_time.specs.declared.step.Step.{Step}
 use Rattle.safe_time.specs.declared.clock_refusal.ClockRefusal.TheVariants.{LeaseHeld}
 use Rattle.safe_time.specs.ActorClock.{ClockState, kind_of, lease_for, step_of, clock_of}
@@ -165,7 +165,7 @@ up_is_whole (x ∷ h) e = up_after x.actor x.reading x.event h (up_is_whole h) e
 -- an actor that is down takes no time and logs nothing
 
 answers_down : (lease : ℕ) (a : Actor) (h : History) (fails : Bool) (reading : ℕ) (asked : Request) (n : ℕ) → IsPlain asked → down_since h ≡ Some n
-    → machine_answer lease a h fails reading asked ≡ refused (refusal.Down n)
+    → machine_answer lease a h fails reading asked ≡ refusal_answer (refusal.Down n)
 answers_down lease (Tablet k) h fails reading request.Restart n plain e = absurd plain
 answers_down lease (Tablet k) h fails reading asked n plain e = ap (λ (down : Option ℕ). tablet_standing down (tablet_up lease h fails reading asked)) e
 answers_down lease (Status k) h fails reading request.Restart n plain e = absurd plain
@@ -176,7 +176,7 @@ answers_down lease (Applier k) h fails reading request.Restart n plain e = absur
 answers_down lease (Applier k) h fails reading asked n plain e = ap (λ (down : Option ℕ). status_standing down (status_up lease h fails reading asked)) e
 
 not_refused : (own : Option LogRecord) (until : Option ℕ) (step : Option Step) (r : Reply) (why : Refusal)
-    → refused why ≡ logged true (is_some own || is_some until) (time_of step) r → ((is_some own || is_some until) || is_some step) ≡ true → ⊥
+    → refusal_answer why ≡ logged true (is_some own || is_some until) (time_of step) r → ((is_some own || is_some until) || is_some step) ≡ true → ⊥
 not_refused (Some own) until step r why e some = let appends : Nothing ≡ Failed = ap (λ (x : Answer). x.append) e in cc
 not_refused None (Some until) step r why e some = let appends : Nothing ≡ Failed = ap (λ (x : Answer). x.append) e in cc
 not_refused None None (Some step) r why e some = let times : None ≡ Some step.time = ap (λ (x : Answer). x.time) e in cc

@@ -11,7 +11,7 @@ use Rattle.txn_data.specs.declared.reply.Reply.TheVariants as reply
 use Rattle.txn_data.specs.declared.refusal.Refusal.TheVariants as refusal
 use Rattle.txn_types.specs.Lists.{or_zero}
 use Rattle.txn_types.specs.History.{History}
-use Rattle.txn_types.specs.Clock.{Answer, told_only, refused, logged, timed, timed_answer, holds, clock_time, lease_due, lease_end, last_time, has_given, down_since}
+use Rattle.txn_types.specs.Clock.{Answer, told_only, refusal_answer, logged, timed, timed_answer, holds, clock_time, lease_due, lease_end, last_time, has_given, down_since}
 use Rattle.txn_types.specs.Tablet.{tablet_answer, tablet_up, tablet_standing, write_answer, has_any, provisional, conflict, greatest_above, related_commits, versions, greatest_fate}
 use Rattle.txn_types.specs.Status.{status_answer, status_up, status_standing, record_of, commit_answer, Record, NoRecord, Pending, Committed, AbortedBy, abort_answer, resolved, may_forget, is_sure, noted}
 use Rattle.txn_types.specs.Run.{Serves, machine_answer}
@@ -42,7 +42,7 @@ taken_answer lease end fails true (Ok t) r time is = let e : Some t ≡ Some tim
 taken_answer lease end fails false (Ok t) r time is = let e : Some t ≡ Some time = sym (logged_time fails (lease_due end t) (Some t) (r t)) ∙ is in cc
 
 taken_free : (held : Bool) (until lease : ℕ) (end : Option ℕ) (fails records : Bool) (given : Result ℕ TimeRefusal) (r : ℕ → Reply) (time : ℕ)
-    → (if held then refused (refusal.LeaseHeld until) else timed_answer lease end fails records given r).time ≡ Some time → (held ≡ false) × (given ≡ Ok time)
+    → (if held then refusal_answer (refusal.LeaseHeld until) else timed_answer lease end fails records given r).time ≡ Some time → (held ≡ false) × (given ≡ Ok time)
 taken_free true until lease end fails records given r time is = cc
 taken_free false until lease end fails records given r time is = (refl, taken_answer lease end fails records given r time is)
 

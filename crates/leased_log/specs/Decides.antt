@@ -60,7 +60,7 @@ abbrev pub IsPlain : Request → Type 0
 IsPlain request.Restart = ⊥
 IsPlain asked = Unit {0}
 
--- a reply that tells of no restart, of no fault of the log and of no want of memory
+-- a reply that tells of no restart, of no fault of the log and of no out of memory
 abbrev pub IsTold : Reply → Type 0
 IsTold (reply.Restarted kept) = ⊥
 IsTold (reply.Refused refusal.LogFault) = ⊥

@@ -300,7 +300,7 @@ impl LogRecord {
         }
     }
 
-    /// Appends the spelling of the record. After want of memory `out` is as before.
+    /// Appends the spelling of the record. If memory runs out, `out` is as before.
     pub fn encode(&self, out: &mut Vec<u8>) -> Result<(), Memory>
         requires { IsTrue (has_spelling self.now) }
         ensures ok { OnOk result (out.new.items ≡ out.old.items ++ spelling self.now) }

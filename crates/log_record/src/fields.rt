@@ -184,7 +184,7 @@ pub(crate) fn tablets_at(
     numbers_at(alloc, count as usize, whole, rest)
 }
 
-/// The path with one more part. It has room for it, so that want of memory is all that `push` may answer.
+/// The path with one more part. It has room for it, so that out of memory is all that `push` may answer.
 fn with_part(path: Path, part: &[u8]) -> Result<Path, RecordRefusal>
     requires { length path < 5 }
     ensures ok { IfOk result (λ p. p ≡ path ++ part.now ∷ []) }

@@ -12,7 +12,7 @@ use Rattle.txn_data.specs.declared.reply.Reply.TheVariants as reply
 use Rattle.txn_data.specs.declared.request.Request.TheVariants as request
 use Rattle.txn_types.specs.Lists.{with_number, rising}
 use Rattle.txn_types.specs.Program.{Program, Done, Asks}
-use Rattle.txn_types.specs.ReadProgram.{Asked, Progress, tablets_of, paths_on, fixed, with_limit, ask_fates, window_of, with_rows, visit, restarted, met_then, read_done, round_one, round_two}
+use Rattle.txn_types.specs.ReadProgram.{Asked, Progress, tablets_of, paths_on, fixed, with_limit, ask_fates, window_of, with_tablet_rows, visit, restarted, met_then, read_done, round_one, round_two}
 use Rattle.read_plan.specs.Laws.{ReadsTakeTwoRounds, RoundsVisitFewTablets}
 use Rattle.read_plan.specs.Stage.{collected}
 use Rattle.read_plan.specs.Visits.{VisitStep, Lists, Collects, Begins, visit_steps, round_steps}
@@ -67,7 +67,7 @@ visit_asks windowed a s k next all h (r ∷ rs) = one_more _ _ _ (over _ _ rs)
 after_second : (a : Asked) (k : ℕ) (ks : List ℕ) (all : List VisitStep)
     → ((s : Progress) (rs : List Reply) → Begins (visit_steps (round_two a s ks) rs) all)
     → (seen : Progress) (answer : Reply) (rs : List Reply) → Begins (visit_steps (collected false a k ks seen answer) rs) all
-after_second a k ks all h seen (reply.Collected rows) rs = h (with_rows k rows seen) rs
+after_second a k ks all h seen (reply.Collected rows) rs = h (with_tablet_rows k rows seen) rs
 after_second a k ks all h seen (reply.Refused why) rs = over _ all rs
 after_second a k ks all h seen r rs = over _ all rs
 
@@ -86,7 +86,7 @@ met_asks false end s next all rs h = h
 after_first : (a : Asked) (k : ℕ) (ks : List ℕ) (all : List VisitStep)
     → ((s : Progress) (rs : List Reply) → Begins (visit_steps (round_one a s ks) rs) all)
     → (seen : Progress) (answer : Reply) (rs : List Reply) → Begins (visit_steps (collected true a k ks seen answer) rs) all
-after_first a k ks all h seen (reply.Collected rows) rs = h (with_rows k rows seen) rs
+after_first a k ks all h seen (reply.Collected rows) rs = h (with_tablet_rows k rows seen) rs
 after_first a k ks all h seen (reply.Met at path) rs = met_asks a.strict _ seen _ all rs (h (restarted at seen) rs)
 after_first a k ks all h seen (reply.Refused why) rs = over _ all rs
 after_first a k ks all h seen r rs = over _ all rs

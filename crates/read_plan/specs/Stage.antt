@@ -12,7 +12,7 @@ use Rattle.txn_data.specs.declared.read_what.ReadWhat.{ReadWhat}
 use Rattle.txn_data.specs.declared.read_what.ReadWhat.TheVariants as what
 use Rattle.txn_data.specs.declared.read_end.ReadEnd.{ReadEnd}
 use Rattle.txn_types.specs.Program.{Program, Asks, Turn, Tell, refusal_told}
-use Rattle.txn_types.specs.ReadProgram.{Asked, Progress, paths_on, read_ended, read_refused, ask_fates, window_of, with_limit, with_rows, round_one, round_two, restarted, met_then}
+use Rattle.txn_types.specs.ReadProgram.{Asked, Progress, paths_on, read_ended, read_refused, ask_fates, window_of, with_limit, with_tablet_rows, round_one, round_two, restarted, met_then}
 use Rattle.read_plan.specs.declared.stage.Stage.{Stage}
 use Rattle.read_plan.specs.declared.stage.Stage.TheVariants as stage
 
@@ -24,13 +24,13 @@ round false a s tablets = round_two a s tablets
 -- what a tablet collected, in either round, before these tablets are visited
 abbrev pub collected : Bool → Asked → ℕ → List ℕ → Progress → Reply → Program ReadEnd
 collected true a k tablets seen answer = elim answer [
-  | reply.Collected rows ↦ round_one a (with_rows k rows seen) tablets
+  | reply.Collected rows ↦ round_one a (with_tablet_rows k rows seen) tablets
   | reply.Met at path ↦ met_then a.strict (what.Restart at path) seen (round_one a (restarted at seen) tablets)
   | reply.Refused why ↦ read_refused (refusal_told (Tablet k) why) seen
   | _ ↦ read_refused told_refusal.Memory seen
 ]
 collected false a k tablets seen answer = elim answer [
-  | reply.Collected rows ↦ round_two a (with_rows k rows seen) tablets
+  | reply.Collected rows ↦ round_two a (with_tablet_rows k rows seen) tablets
   | reply.Refused why ↦ read_refused (refusal_told (Tablet k) why) seen
   | _ ↦ read_refused told_refusal.Memory seen
 ]

@@ -74,7 +74,7 @@ pub(crate) fn limit_of(tablet: u32, limits: &[TabletLimit]) -> Option<HybridTime
     None
 }
 
-/// The local limit of this tablet: the one that is fixed, or else this one, which is fixed then. After want of memory the
+/// The local limit of this tablet: the one that is fixed, or else this one, which is fixed then. If memory runs out, the
 /// limits are as before.
 pub(crate) fn fix_limit(
     limits: &mut Limits,

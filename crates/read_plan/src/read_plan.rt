@@ -93,7 +93,7 @@ impl ReadPlan {
     }
 
     /// What it asks next, or how it ended. Where it asks, it is as before; once it has told its end, it is over, and nothing
-    /// is promised of it. It takes no memory to tell a refusal. After want of memory it is as before.
+    /// is promised of it. It takes no memory to tell a refusal. If memory runs out, it is as before.
     pub fn next(&mut self) -> Result<ReadTurn, Memory>
         ensures turn { IfOk result (λ next. turn_of next ≡ turn (rest self.old)) }
         ensures asked { IfOk result (λ next. is_ask next ≡ true → self.new ≡ self.old) }

@@ -44,7 +44,7 @@ fn rows_of_tablets(alloc: Global, found: &[TabletRows]) -> Result<Rows, Memory>
     Ok(rows)
 }
 
-// After want of memory some of the rows may be there.
+// If memory runs out, some of the rows may be there.
 fn append_copies(rows: &mut Rows, alloc: Global, items: &[Row]) -> Result<(), Memory>
     ensures { OnOk result (rows.new ≡ rows.old ++ items.now) }
 {

@@ -37,7 +37,7 @@ pub trait Versions {
     ghost held_fits: { (set : Self) (vs : List Seen) → holds set vs → (v : Seen) → Member v vs → fits v.path };
 
     /// Adds these versions, one after another. One with the path, the commit time and the write number of another that is
-    /// there takes its place. After want of memory it holds what it held before.
+    /// there takes its place. If memory runs out, it holds what it held before.
     fn add_all(&mut self, list: Vec<Version>) -> Result<(), Memory>
         requires { All (λ (v : Seen). fits v.path) list.items }
         ensures ok { (vs : List Seen) → holds self.old vs → OnOk result (holds self.new (with_versions vs list.items)) }

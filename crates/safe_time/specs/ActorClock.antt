@@ -7,7 +7,7 @@ use Rattle.txn_data.specs.declared.refusal.Refusal.{Refusal}
 use Rattle.txn_data.specs.declared.refusal.Refusal.TheVariants as refusal
 use Rattle.txn_types.specs.Lists.{or_else, or_zero}
 use Rattle.txn_types.specs.History.{History}
-use Rattle.txn_types.specs.Clock.{Answer, Kind, Own, Floor, clock_time, holds, lease_due, last_time, has_given, lease_end, refused, logged}
+use Rattle.txn_types.specs.Clock.{Answer, Kind, Own, Floor, clock_time, holds, lease_due, last_time, has_given, lease_end, refusal_answer, logged}
 use Rattle.safe_time.specs.Refusals.{refused_by}
 use Rattle.safe_time.specs.declared.step.Step.{Step}
 use Rattle.safe_time.specs.declared.clock_refusal.ClockRefusal.{ClockRefusal}
@@ -67,5 +67,5 @@ refusal_of (ClockFull at) = refusal.ClockFull at
 
 -- what an action answers over a step: whether it has a record of its own, and what it replies at a time
 abbrev pub answer_over : Bool → Bool → (ℕ → Reply) → Result Step ClockRefusal → Answer
-answer_over fails records r (Err e) = refused (refusal_of e)
+answer_over fails records r (Err e) = refusal_answer (refusal_of e)
 answer_over fails records r (Ok step) = logged fails (records || is_some step.lease) (Some step.time) (r step.time)

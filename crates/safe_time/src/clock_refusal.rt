@@ -3,6 +3,8 @@ ghost use Rattle.std.specs.Prelude.{◌≡◌};
 ghost use Rattle.safe_time.specs.Refusals.{refused_by};
 
 use hybrid_time::{HybridTime, TimeRefusal};
+use std::error::Error;
+use std::fmt;
 
 /// Why a clock gives no time.
 #[derive(Clone, Copy, Debug, PartialEq, Eq)]
@@ -25,3 +27,15 @@ impl From<TimeRefusal> for ClockRefusal {
         }
     }
 }
+
+impl fmt::Display for ClockRefusal {
+    fn fmt<W: fmt::Write>(&self, f: &mut fmt::Formatter<W>) -> fmt::Result {
+        match self {
+            ClockRefusal::LeaseHeld { until } => write!(f, "the reading is not above the end of the lease, {until}"),
+            ClockRefusal::ClockRange { reading } => write!(f, "the reading {reading} is above the greatest that a clock takes"),
+            ClockRefusal::ClockFull { at } => write!(f, "the logical counter of {at} is at its end"),
+        }
+    }
+}
+
+impl Error for ClockRefusal {}

@@ -28,12 +28,12 @@ turned config a m reading Reading = m
 turned config a m reading (Ask to asked) = mover_after config a m reading (event.Ask to asked)
 turned config a m reading (Tell t) = mover_after config a m reading (event.Tell m.commands t)
 
--- the command ends with want of memory
+-- the command ends with out of memory
 abbrev pub gave_up : Config → Actor → Mover → Mover
 gave_up config a m = mover_after config a m None (event.Tell m.commands (told.Refused told_refusal.Memory))
 
 -- what a call makes of a mover, given this reading: the turn that comes next in its program, and the mover after the entry of that turn;
--- or want of memory, where it may be told that
+-- or out of memory, where it may be told that
 abbrev pub Answered : {E : Type 0} → Config → Actor → Mover → Option ℕ → Mover → Result Made E → Type 0
 Answered config a m reading after (Ok t) = (turn_of t ≡ turn_with m.rest reading) × (after ≡ turned config a m reading (turn_of t))
 Answered config a m reading after (Err e) = (m.may_lose ≡ true) × (after ≡ gave_up config a m)

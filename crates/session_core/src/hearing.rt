@@ -40,7 +40,7 @@ fn limit_of(tablet: u32, limits: &[TabletLimit]) -> Option<HybridTime>
     None
 }
 
-/// Whether a reply may have settled something: no want of memory is told after it.
+/// Whether a reply may have settled something: no out of memory is told after it.
 pub(crate) fn is_settling(reply: &Reply) -> bool
     ensures { result ≡ settles reply.now }
 {

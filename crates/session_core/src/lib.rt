@@ -1,7 +1,7 @@
 //! One session: its commands, its open transaction and its time.
 //!
 //! The contract is exact. A session is seen as a mover of `txn_types`. Each call makes of it what the entries that the
-//! caller records make of a mover, and tells what comes next in the program of the command. Want of memory ends the
+//! caller records make of a mover, and tells what comes next in the program of the command. Out of memory ends the
 //! command, and comes only where a mover may be told it.
 #![tactic(auto)]
 

@@ -27,7 +27,7 @@ pub(crate) struct UnderWay {
     pub(crate) work: Work,
     /// The reading that stands in its first request.
     pub(crate) reading: Option<u64>,
-    /// Whether it may still end with want of memory.
+    /// Whether it may still end with out of memory.
     pub(crate) may_lose: bool,
 }
 
@@ -56,7 +56,7 @@ impl UnderWay {
         })
     }
 
-    /// Goes on with the reply of the actor that was asked. A list for a read comes only to a read. Want of memory leaves the
+    /// Goes on with the reply of the actor that was asked. A list for a read comes only to a read. Out of memory leaves the
     /// limits that were heard.
     pub(crate) fn hear(&mut self, from: Actor, reply: &Reply) -> Result<(), Memory>
         requires sound { IsSound self.old }

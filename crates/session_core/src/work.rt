@@ -41,7 +41,7 @@ impl Work {
     ghost use Rattle.txn_data.specs.declared.tablet_limit.TabletLimit.{TabletLimit as Limit};
     ghost use Rattle.std.specs.Prelude.{List};
 
-    /// Goes on with the reply to what was asked. After want of memory it is as before.
+    /// Goes on with the reply to what was asked. If memory runs out, it is as before.
     pub(crate) fn hear(&mut self, reply: &Reply) -> Result<(), Memory>
         requires { waits self.old ≡ true }
         ensures ok { (config : Config) (i : ℕ) (s : Keeps) (line : Line) → OnOk result (work_rest config i s line self.new ≡ heard (work_rest config i s line self.old) reply.now) }

@@ -210,7 +210,7 @@ stays_done old new row s done = record {
   copy = done.acts.copy;
 }
 
--- ---- want of memory
+-- ---- out of memory
 
 pub serves_undone : Still → (old new : StatusState) → IsUndone old new → SameCounts old.log new.log → (from : Actor) (reading : Option ℕ) (asked : Request)
     → ServesBy old new from reading asked out_of_memory

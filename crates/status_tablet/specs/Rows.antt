@@ -93,12 +93,12 @@ pub record IsUndone (old new : StatusState) : Type 0 where
   pub status : new.status ≡ old.status
   pub records : (x : ℕ) → kept_at new.records x ≡ kept_at old.records x
 
--- want of memory, as it is told
+-- out of memory, as it is told
 abbrev pub out_of_memory : Served
 out_of_memory = record { reply = reply.Refused refusal.Memory; copy = reply.Refused refusal.Memory; time = None; append = Nothing }
 
 -- what each of its calls promises: the status tablet serves this request by its table, and stands for its entries with this
--- one more; it tells a fault of the log only where its store counted one, want of memory only where nothing changed, and of a
+-- one more; it tells a fault of the log only where its store counted one, out of memory only where nothing changed, and of a
 -- restart only where it was asked for one. Any other request makes no load, and counts no fault where it appends nothing.
 pub record ServesBy (old new : StatusState) (from : Actor) (reading : Option ℕ) (asked : Request) (s : Served) : Type 0 where
   pub advances : Advances (Stands old) (Stands new) old.log.clock.lease (Status old.status) from reading asked s.reply s

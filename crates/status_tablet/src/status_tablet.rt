@@ -190,7 +190,7 @@ impl<L: LogStore> StatusTablet<L> {
         }
     }
 
-    /// Does what a row comes to. After want of memory all is as before.
+    /// Does what a row comes to. If memory runs out, all is as before.
     fn carry_out(&mut self, row: Row) -> Served
         requires room { self.old.log.actions < 2 ^ 62 }
         requires spelled { IsTrue (is_spelled row.decision.own) }
@@ -220,7 +220,7 @@ impl<L: LogStore> StatusTablet<L> {
     }
 }
 
-/// The reply of want of memory.
+/// The reply of out of memory.
 fn want_of_memory() -> Served
     ensures { result ≡ out_of_memory }
 {

@@ -50,7 +50,7 @@ impl TxnRecords {
         self.map.get(&txn)
     }
 
-    /// Takes in one more record of the log. After want of memory all is as before.
+    /// Takes in one more record of the log. If memory runs out, all is as before.
     pub fn apply(&mut self, logged: &LogRecord) -> Result<(), Memory>
         ensures ok { OnOk result ((x : ℕ) → kept_at self.new.map.entries x ≡ kept_after logged.now x (kept_at self.old.map.entries x)) }
         ensures memory { OnErr result ((x : ℕ) → kept_at self.new.map.entries x ≡ kept_at self.old.map.entries x) }
@@ -78,7 +78,7 @@ impl TxnRecords {
         }
     }
 
-    /// Takes in the record of an action, where there is one, and what stands in no log. After want of memory all is as
+    /// Takes in the record of an action, where there is one, and what stands in no log. If memory runs out, all is as
     /// before.
     pub fn take_in(&mut self, own: Option<&LogRecord>, mark: Mark) -> Result<(), Memory>
         ensures ok { OnOk result ((x : ℕ) → kept_at self.new.map.entries x ≡ marked mark x (kept_with (option_copied own.entry) x (kept_at self.old.map.entries x))) }

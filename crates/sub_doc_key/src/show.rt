@@ -45,7 +45,7 @@ fn show(path: &Path, out: &mut Vec<u8>) -> Result<(), Memory>
 }
 
 /// Appends the text of a path, as a script and a report show it. A part that spells no document key or no value,
-/// where one has to stand, has no text. After want of memory `out` is as before.
+/// where one has to stand, has no text. If memory runs out, `out` is as before.
 pub fn path_text(path: &Path, out: &mut Vec<u8>) -> Result<(), Memory>
     ensures ok { OnOk result (out.new.items ≡ out.old.items ++ shown_path path.now) }
     ensures memory { OnErr result (out.new.items ≡ out.old.items) }

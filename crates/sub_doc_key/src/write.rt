@@ -44,7 +44,7 @@ fn append(path: &Path, at: HybridTime, number: u32, out: &mut Vec<u8>) -> Result
 }
 
 /// Appends the spelling of a versioned key: the parts of the path, the tag of the suffix, the time and the write number.
-/// It is read back where the parts spell a document key and values. After want of memory `out` is as before.
+/// It is read back where the parts spell a document key and values. If memory runs out, `out` is as before.
 pub fn encode(path: &Path, at: HybridTime, number: u32, out: &mut Vec<u8>) -> Result<(), Memory>
     ensures ok { OnOk result (out.new.items ≡ out.old.items ++ spelling (record { path = path.now; at = at; number = number })) }
     ensures memory { OnErr result (out.new.items ≡ out.old.items) }

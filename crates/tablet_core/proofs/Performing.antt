@@ -204,7 +204,7 @@ module _ {V L : Type 0} (holds : V → List Version → Type 0) where
     records = λ up. un.records (provisional h) (versions h) (st.records up);
   }
 
-  -- want of memory
+  -- out of memory
   pub undone_serves : Still → (old new : TabletCore V L) → IsUndone holds old new → SameCounts old.log new.log → (from : Actor) (reading : Option ℕ) (asked : Request) → ServesBy holds old new from reading asked out_of_memory
   undone_serves still old new un same from reading asked = record {
     advances = undone_stands still old new un;

@@ -102,7 +102,7 @@ module _ {V L : Type 0} (holds : V → List Version → Type 0) where
     faults = λ plain none. absurd plain;
   }
 
-  -- want of memory before the restart
+  -- out of memory before the restart
   pub restart_undone : Still → (old new : TabletCore V L) → IsUndone holds old new → (from : Actor) → ServesBy holds old new from None Restart out_of_memory
   restart_undone still old new un from = record {
     advances = undone_stands holds still old new un;

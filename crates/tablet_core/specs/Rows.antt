@@ -57,7 +57,7 @@ pub record IsUndone {V L : Type 0} (holds : V → List Version → Type 0) (old 
   pub tablet : new.tablet ≡ old.tablet
   pub records : (ps : List Intent) (vs : List Version) → Keeps holds old.records ps vs → Keeps holds new.records ps vs
 
--- want of memory, as it is told
+-- out of memory, as it is told
 abbrev pub out_of_memory : Served
 out_of_memory = record { reply = reply.Refused refusal.Memory; copy = reply.Refused refusal.Memory; time = None; append = Nothing }
 
@@ -67,7 +67,7 @@ IfRestarted (reply.Restarted kept) P = P kept
 IfRestarted r P = Unit {0}
 
 -- what each call promises: the tablet serves this request by its table, and stands for its entries with this one more; it
--- tells a fault of the log only where its store counted one, want of memory only where nothing changed, and of a restart only
+-- tells a fault of the log only where its store counted one, out of memory only where nothing changed, and of a restart only
 -- where it was asked for one. Any other request makes no load, and counts no fault where it appends nothing.
 pub record ServesBy {V L : Type 0} (holds : V → List Version → Type 0) (old new : TabletCore V L) (from : Actor) (reading : Option ℕ) (asked : Request) (s : Served) : Type 0 where
   pub advances : Advances (Stands holds old) (Stands holds new) old.log.clock.lease (Tablet old.tablet) from reading asked s.reply s

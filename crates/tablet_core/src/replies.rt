@@ -5,7 +5,7 @@ ghost use Rattle.tablet_core.specs.Restarts.{restarted_with, not_loaded};
 
 use txn_types::{Append, Refusal, Reply, Served};
 
-/// The reply of want of memory.
+/// The reply of out of memory.
 pub(crate) fn want_of_memory() -> Served
     ensures { result ≡ out_of_memory }
 {

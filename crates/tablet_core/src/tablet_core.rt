@@ -279,7 +279,7 @@ impl<V: Versions + Drop, L: LogStore> TabletCore<V, L> {
         Ok(self.log.restart(&records))
     }
 
-    /// Does what was decided. After want of memory all is as before.
+    /// Does what was decided. If memory runs out, all is as before.
     pub(crate) fn perform(&mut self, decision: Decision) -> Served
         requires room { self.old.log.actions < 2 ^ 62 }
         requires loggable { IsLoggable V.fits decision }
@@ -307,7 +307,7 @@ impl<V: Versions + Drop, L: LogStore> TabletCore<V, L> {
     }
 }
 
-// Takes the record of an action's own into the contents, where there is one. After want of memory they are as before.
+// Takes the record of an action's own into the contents, where there is one. If memory runs out, they are as before.
 fn take_in<V: Versions + Drop>(
     records: &mut TabletRecords<V>,
     own: Option<&LogRecord>,

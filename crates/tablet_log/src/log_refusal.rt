@@ -4,13 +4,15 @@ ghost use Rattle.tablet_log.specs.declared.log_refusal.LogRefusal.TheVariants.{L
 
 use docdb_outside::Failed;
 use std::alloc::AllocError;
+use std::error::Error;
+use std::fmt;
 
 /// Why records are not appended.
 #[derive(Clone, Copy, Debug, PartialEq, Eq)]
 pub enum LogRefusal {
     /// The store failed: it holds all of the new frames, or none.
     LogFault,
-    /// Want of memory. The store is as before.
+    /// Out of memory. The store is as before.
     Memory,
 }
 
@@ -29,3 +31,14 @@ impl From<Failed> for LogRefusal {
         LogRefusal::LogFault
     }
 }
+
+impl fmt::Display for LogRefusal {
+    fn fmt<W: fmt::Write>(&self, f: &mut fmt::Formatter<W>) -> fmt::Result {
+        f.write_str(match self {
+            LogRefusal::LogFault => "the log failed",
+            LogRefusal::Memory => "out of memory",
+        })
+    }
+}
+
+impl Error for LogRefusal {}

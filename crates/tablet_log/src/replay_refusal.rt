@@ -5,6 +5,8 @@ ghost use Rattle.tablet_log.specs.Refusals.{refused_by};
 
 use docdb_outside::LoadFault;
 use std::alloc::{AllocError, AllocFailed};
+use std::error::Error;
+use std::fmt;
 
 /// Why a log is not read.
 #[derive(Clone, Copy, Debug, PartialEq, Eq)]
@@ -13,7 +15,7 @@ pub enum ReplayRefusal {
     LogFault,
     /// The bytes held are no whole list of frames of records; the offset of the first that is none.
     LogBad { offset: u64 },
-    /// Want of memory.
+    /// Out of memory.
     Memory,
 }
 
@@ -43,3 +45,15 @@ impl<T: Drop> From<AllocFailed<T>> for ReplayRefusal {
         ReplayRefusal::Memory
     }
 }
+
+impl fmt::Display for ReplayRefusal {
+    fn fmt<W: fmt::Write>(&self, f: &mut fmt::Formatter<W>) -> fmt::Result {
+        match self {
+            ReplayRefusal::LogFault => f.write_str("the log failed"),
+            ReplayRefusal::LogBad { offset } => write!(f, "no frame of a record at byte {offset} of the log"),
+            ReplayRefusal::Memory => f.write_str("out of memory"),
+        }
+    }
+}
+
+impl Error for ReplayRefusal {}

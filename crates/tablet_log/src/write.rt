@@ -52,7 +52,7 @@ pub fn append<L: LogStore>(
     ensures faults { L.faults log.old ≤ L.faults log.new }
     ensures failed { IsErrOf result LogRefusal.LogFault → Rose (L.faults log.old) (L.faults log.new) }
 
-    // Want of memory changes nothing.
+    // Out of memory changes nothing.
     ensures memory_held { IsErrOf result LogRefusal.Memory → L.held log.new ≡ L.held log.old }
     ensures memory_faults { IsErrOf result LogRefusal.Memory → L.faults log.new ≡ L.faults log.old }
     ensures memory_room { IsErrOf result LogRefusal.Memory → L.room log.new ≡ L.room log.old }

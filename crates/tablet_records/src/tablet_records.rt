@@ -49,7 +49,7 @@ impl<V: Versions + Drop> TabletRecords<V> {
         Ok(all)
     }
 
-    /// Takes in one more record of the log. After want of memory it stands for what it stood for.
+    /// Takes in one more record of the log. If memory runs out, it stands for what it stood for.
     pub fn apply(&mut self, logged: &LogRecord) -> Result<(), Memory>
         requires { PathFits V.fits logged.now }
         ensures ok { (ps : List Intent) (vs : List Seen) → Keeps V.holds self.old ps vs → OnOk result (Keeps V.holds self.new (intents_after ps logged.now) (versions_after vs ps logged.now)) }

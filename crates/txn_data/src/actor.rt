@@ -1,6 +1,7 @@
 //! An actor of a cluster, by its number.
 use docdb_base::{Memory, TryCopy};
 use std::alloc::Global;
+use std::fmt;
 
 /// An actor of a cluster, by its number.
 #[derive(Clone, Copy, Debug, PartialEq, Eq)]
@@ -13,6 +14,17 @@ pub enum Actor {
     Session(u32),
     /// The applier of the tablet with this number.
     Applier(u32),
+}
+
+impl fmt::Display for Actor {
+    fn fmt<W: fmt::Write>(&self, f: &mut fmt::Formatter<W>) -> fmt::Result {
+        match self {
+            Actor::Tablet(number) => write!(f, "tablet {number}"),
+            Actor::Status(number) => write!(f, "status tablet {number}"),
+            Actor::Session(number) => write!(f, "session {number}"),
+            Actor::Applier(number) => write!(f, "the applier of tablet {number}"),
+        }
+    }
 }
 
 impl TryCopy for Actor {

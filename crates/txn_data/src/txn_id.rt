@@ -1,6 +1,7 @@
 //! The id of a transaction.
 use docdb_base::{Memory, TryCopy};
 use std::alloc::Global;
+use std::fmt;
 use std::marker::Model;
 
 /// The id of a transaction: the number of its session times 2^64, and its serial number in that session. Contracts see
@@ -18,6 +19,15 @@ impl Model for TxnId {
     ghost view = { λ x. x.number };
 
     ghost inverse = { λ n. record { number = n } };
+}
+
+// The number of the session, a dot, and the serial number.
+impl fmt::Display for TxnId {
+    fn fmt<W: fmt::Write>(&self, f: &mut fmt::Formatter<W>) -> fmt::Result {
+        let session = self.number / 18_446_744_073_709_551_616;
+        let serial = self.number % 18_446_744_073_709_551_616;
+        write!(f, "{session}.{serial}")
+    }
 }
 
 impl TryCopy for TxnId {

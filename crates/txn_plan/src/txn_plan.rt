@@ -60,7 +60,7 @@ impl TxnPlan {
     }
 
     /// Goes on with the reply to what it asked. It may take memory after the same requests, but for no refusal, nor for the
-    /// reply that ends the step; after want of memory it is as before. Once it is told something, a reply changes nothing.
+    /// reply that ends the step; if memory runs out, it is as before. Once it is told something, a reply changes nothing.
     pub fn hear(&mut self, reply: &Reply) -> Result<(), Memory>
         ensures ok { OnOk result (rest self.new ≡ heard (rest self.old) reply.now) }
         ensures memory { OnErr result (self.new ≡ self.old) }

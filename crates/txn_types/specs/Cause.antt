@@ -25,15 +25,15 @@ use Rattle.txn_data.specs.declared.event.Event.{Event}
 use Rattle.txn_data.specs.declared.event.Event.TheVariants.{Serve, Tell}
 use Rattle.txn_data.specs.declared.entry.Entry.{Entry}
 use Rattle.txn_types.specs.Lists.{Member, has_number, rising, or_zero}
-use Rattle.txn_types.specs.History.{History, same_actor, own, was_logged}
+use Rattle.txn_types.specs.History.{History, same_actor, is_start, own, stands_in_log}
 use Rattle.txn_types.specs.Clock.{last_time, has_given, lease_end, down_since}
 use Rattle.txn_types.specs.Tablet.{txn_of, provisional, versions, others_on, conflict, related_commits, greatest_above, greatest_fate, first_of, has_any}
 use Rattle.txn_types.specs.Status as status
 use Rattle.txn_types.specs.Status.{Record, record_of}
 use Rattle.txn_types.specs.Committed.{committed}
-use Rattle.txn_types.specs.Session.{Opened, has_writes}
+use Rattle.txn_types.specs.Session.{Opened, IsOpen, has_writes}
 use Rattle.txn_types.specs.Run.{mover_at}
-use Rattle.txn_types.specs.Reads.{before_start, is_start, touches}
+use Rattle.txn_types.specs.Reads.{before_start, touches}
 
 -- what a mover was told, with the reading in that entry, and the history before it
 pub record ToldAt : Type 0 where
@@ -98,11 +98,11 @@ needs_time (request.Commit x floor tablets) h = is_pending (record_of x h)
 needs_time asked h = false
 
 -- whether it takes a time of its own, and above which floor
-abbrev pub floor_of : Request → Option ℕ
-floor_of (request.Write meta number path op read seen fates) = Some seen
-floor_of (request.Single x path op seen fates) = Some (max seen (greatest_fate fates fates))
-floor_of (request.Commit x floor tablets) = Some floor
-floor_of asked = None
+abbrev pub floor_asked : Request → Option ℕ
+floor_asked (request.Write meta number path op read seen fates) = Some seen
+floor_asked (request.Single x path op seen fates) = Some (max seen (greatest_fate fates fates))
+floor_asked (request.Commit x floor tablets) = Some floor
+floor_asked asked = None
 
 -- A Resolve of this command found `other` Pending, with a priority that is not lower.
 pub record FoundPending (m : Actor) (h : History) (other : ℕ) : Type 0 where
@@ -162,16 +162,20 @@ pub record Overlaps (m : Actor) (h : History) (at : ℕ) : Type 0 where
   pub is_committed : Member commit (committed h)
   pub commit_time : commit.at ≡ at
 
--- a Resolve that the log took or that failed found the transaction Pending with a lower priority
+-- a Resolve for `by` found the transaction Pending with a lower priority
 abbrev pub ResolvesHigher : ℕ → ℕ → Actor → Event → History → Type 0
 ResolvesHigher x by a (Serve from (request.Resolve y z priority) r time append) h =
-    (y ≡ x) × (z ≡ by) × (was_logged (Serve from (request.Resolve y z priority) r time append) ≡ true)
-    × ((own_priority : ℕ) × (record_of x (own a h) ≡ status.Pending own_priority) × (own_priority < priority))
+    (y ≡ x) × (z ≡ by) × ((own_priority : ℕ) × (record_of x (own a h) ≡ status.Pending own_priority) × (own_priority < priority))
 ResolvesHigher x by a event h = ⊥
 
-unfoldable pub WasResolved : ℕ → ℕ → Actor → History → Type 0
-WasResolved x by a [] = ⊥
-WasResolved x by a (e ∷ h) = ((e.actor ≡ a) × ResolvesHigher x by a e.event h) ⊎ WasResolved x by a h
+-- such a Resolve of the actor stands in its log, where `later` are the entries that follow
+unfoldable pub ResolvedBefore : List Entry → ℕ → ℕ → Actor → History → Type 0
+ResolvedBefore later x by a [] = ⊥
+ResolvedBefore later x by a (e ∷ h) =
+    ((e.actor ≡ a) × (stands_in_log later e ≡ true) × ResolvesHigher x by a e.event h) ⊎ ResolvedBefore (e ∷ later) x by a h
+
+abbrev pub WasResolved : ℕ → ℕ → Actor → History → Type 0
+WasResolved x by a h = ResolvedBefore [] x by a h
 
 -- A Commit found the record aborted by `by`, whose Resolve had the higher priority.
 pub record FoundAborted (m : Actor) (h : History) (by : ℕ) : Type 0 where
@@ -235,7 +239,7 @@ pub record CounterEnded (m : Actor) (h : History) (a : Actor) (at : ℕ) : Type 
   pub answered : served.reply ≡ reply.Refused (refusal.ClockFull at)
   pub takes : needs_time served.asked (own_then served) ≡ true
   pub floor : ℕ
-  pub asks : floor_of served.asked ≡ Some floor
+  pub asks : floor_asked served.asked ≡ Some floor
   pub greater : at ≡ max (last_time (own_then served)) floor
   pub ended : logical_of at ≡ 4095
   pub early : or_zero served.reading ≤ micros_of at
@@ -279,10 +283,6 @@ needs_closed (Some (command.SinglePut place v priority)) = true
 needs_closed (Some (command.SingleDel place priority)) = true
 needs_closed line = false
 
-abbrev pub IsOpened : Option Opened → Type 0
-IsOpened None = ⊥
-IsOpened (Some x) = Unit {0}
-
 -- A commit or an abort of the open transaction was served with an append that failed.
 abbrev pub works_inside : Option Command → Bool
 works_inside (Some (command.Put place v)) = true
@@ -314,12 +314,12 @@ CauseOf config t (why.Down a since) = WasDown t.who t.before a since
 CauseOf config t why.NoTxn =
     let m = mover_at config t.who t.before in (needs_open m.line ≡ true) × (m.keeps.opened ≡ None)
 CauseOf config t why.TxnOpen =
-    let m = mover_at config t.who t.before in (needs_closed m.line ≡ true) × IsOpened m.keeps.opened
+    let m = mover_at config t.who t.before in (needs_closed m.line ≡ true) × IsOpen m.keeps.opened
 CauseOf config t why.InDoubt =
     let m = mover_at config t.who t.before in
     (works_inside m.line ≡ true) × InDoubt m.keeps.opened (before_start t.who t.before)
 CauseOf config t why.Memory = Unit {0}
 
--- each refusal has its cause; want of memory is free
+-- each refusal has its cause; out of memory is free
 abbrev pub Cause : Config → ToldAt → Type 0
 Cause config t = elim t.told [ told.Refused refusal ↦ CauseOf config t refusal | _ ↦ Unit {0} ]

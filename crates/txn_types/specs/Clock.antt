@@ -87,8 +87,8 @@ pub record Answer : Type 0 where
 abbrev pub told_only : Reply → Answer
 told_only r = record { reply = r; time = None; append = Nothing }
 
-abbrev pub refused : Refusal → Answer
-refused r = told_only (reply.Refused r)
+abbrev pub refusal_answer : Refusal → Answer
+refusal_answer r = told_only (reply.Refused r)
 
 -- the answer of an action that has something to log or not, where the log fails or not
 abbrev pub logged : Bool → Bool → Option ℕ → Reply → Answer
@@ -115,7 +115,7 @@ holds None given reading = false
 holds (Some end) given reading = not given && nat_le reading end
 
 abbrev pub timed_answer : ℕ → Option ℕ → Bool → Bool → Result ℕ TimeRefusal → (ℕ → Reply) → Answer
-timed_answer lease end fails records (Err e) r = refused (time_refused e)
+timed_answer lease end fails records (Err e) r = refusal_answer (time_refused e)
 timed_answer lease end fails true (Ok time) r = logged fails true (Some time) (r time)
 timed_answer lease end fails false (Ok time) r = logged fails (lease_due end time) (Some time) (r time)
 
@@ -124,5 +124,5 @@ timed_answer lease end fails false (Ok time) r = logged fails (lease_due end tim
 abbrev pub timed : ℕ → History → Bool → Kind → ℕ → ℕ → Bool → (ℕ → Reply) → Answer
 timed lease h fails kind floor reading records r =
     let end = lease_end lease h in
-    if holds end (has_given h) reading then refused (refusal.LeaseHeld (or_zero end))
+    if holds end (has_given h) reading then refusal_answer (refusal.LeaseHeld (or_zero end))
     else timed_answer lease end fails records (clock_time kind (last_time h) floor reading) r

@@ -1,11 +1,11 @@
 -- Histories, the newest entry first, and which of their entries count.
-use Rattle.std.specs.Prelude.{Bool, true, false, List, [], ◌∷◌, reverse, filter, nat_eq, if◌then◌else◌}
+use Rattle.std.specs.Prelude.{Bool, true, false, List, [], ◌∷◌, reverse, filter, nat_eq, if◌then◌else◌, ◌&&◌}
 use Rattle.txn_data.specs.declared.actor.Actor.{Actor}
 use Rattle.txn_data.specs.declared.actor.Actor.TheVariants.{Tablet, Status, Session, Applier}
 use Rattle.txn_data.specs.declared.append.Append.{Append}
 use Rattle.txn_data.specs.declared.append.Append.TheVariants.{Nothing, Took, Failed}
 use Rattle.txn_data.specs.declared.event.Event.{Event}
-use Rattle.txn_data.specs.declared.event.Event.TheVariants.{Serve, Restarted}
+use Rattle.txn_data.specs.declared.event.Event.TheVariants.{Start, Serve, Restarted}
 use Rattle.txn_data.specs.declared.entry.Entry.{Entry}
 use Rattle.txn_data.specs.declared.trace.Trace.{Trace}
 
@@ -26,6 +26,11 @@ same_actor _ _ = false
 -- the entries of one actor
 abbrev pub own : Actor → History → History
 own a h = filter (λ (e : Entry). same_actor e.actor a) h
+
+-- a command begins
+abbrev pub is_start : Event → Bool
+is_start (Start number line) = true
+is_start event = false
 
 abbrev pub kept_by : Event → Bool → Bool
 kept_by (Restarted from kept) otherwise = kept
@@ -61,6 +66,10 @@ abbrev pub was_logged : Event → Bool
 was_logged (Serve from request reply time Nothing) = false
 was_logged (Serve from request reply time append) = true
 was_logged _ = false
+
+-- an entry counts and had something to log, where `later` are the entries that follow
+abbrev pub stands_in_log : List Entry → Entry → Bool
+stands_in_log later e = event_counts e.event (next_restart_kept e.actor later) && was_logged e.event
 
 -- the entries that stand in a log: those that count and had something to log
 abbrev pub standing : History → History

@@ -16,5 +16,4 @@ pub mod Reads
 pub mod Script
 pub mod Cause
 pub mod Settled
-pub mod BeforeLogs
 pub mod Machine

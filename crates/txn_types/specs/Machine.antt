@@ -54,7 +54,7 @@ Answers lease a h reading asked served = AnswersBy lease a h reading asked serve
 abbrev pub Standing : Type 1
 Standing = List ℕ → ℕ → History → Type 0
 
--- want of memory changed nothing: a machine stands for what it stood for
+-- a machine that ran out of memory changed nothing: it stands for what it stood for
 abbrev pub Stays : Standing → Standing → Type 0
 Stays before after = (bytes : List ℕ) (faults : ℕ) (h : History) → before bytes faults h → after bytes faults h
 

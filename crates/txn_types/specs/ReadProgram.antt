@@ -92,8 +92,8 @@ visit a s windowed k next =
       | _ ↦ read_refused told_refusal.Memory s
     ])
 
-abbrev pub with_rows : ℕ → List Row → Progress → Progress
-with_rows k rows s = record s { found = s.found ++ (record { tablet = k; rows = rows }) ∷ [] }
+abbrev pub with_tablet_rows : ℕ → List Row → Progress → Progress
+with_tablet_rows k rows s = record s { found = s.found ++ (record { tablet = k; rows = rows }) ∷ [] }
 
 -- the row of a path among those of a tablet
 unfoldable pub row_of : Parts → List Row → Row
@@ -116,7 +116,7 @@ read_done a s = read_ended (what.Values (all_rows a.kind a.places s.found)) s
 unfoldable pub round_two : Asked → Progress → List ℕ → Program ReadEnd
 round_two a s [] = read_done a s
 round_two a s (k ∷ ks) = visit a s false k (λ seen answer. elim answer [
-  | reply.Collected rows ↦ round_two a (with_rows k rows seen) ks
+  | reply.Collected rows ↦ round_two a (with_tablet_rows k rows seen) ks
   | reply.Refused why ↦ read_refused (refusal_told (Tablet k) why) seen
   | _ ↦ read_refused told_refusal.Memory seen
 ])
@@ -137,7 +137,7 @@ met_then false end s next = next
 unfoldable pub round_one : Asked → Progress → List ℕ → Program ReadEnd
 round_one a s [] = round_one_done a s
 round_one a s (k ∷ ks) = visit a s true k (λ seen answer. elim answer [
-  | reply.Collected rows ↦ round_one a (with_rows k rows seen) ks
+  | reply.Collected rows ↦ round_one a (with_tablet_rows k rows seen) ks
   | reply.Met at path ↦ met_then a.strict (what.Restart at path) seen (round_one a (restarted at seen) ks)
   | reply.Refused why ↦ read_refused (refusal_told (Tablet k) why) seen
   | _ ↦ read_refused told_refusal.Memory seen

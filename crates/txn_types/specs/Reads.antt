@@ -19,7 +19,7 @@ use Rattle.txn_data.specs.declared.entry.Entry.{Entry}
 use Rattle.txn_data.specs.declared.config.Config.{Config}
 use Rattle.txn_types.specs.Lists.{Member, or_else, or_zero}
 use Rattle.txn_types.specs.Writes.{value, beneath}
-use Rattle.txn_types.specs.History.{History, same_actor}
+use Rattle.txn_types.specs.History.{History, same_actor, is_start}
 use Rattle.txn_types.specs.Committed.{writes, committed, fold}
 use Rattle.txn_types.specs.Session.{Opened}
 use Rattle.txn_types.specs.Run.{mover_at}
@@ -42,10 +42,6 @@ unfoldable pub reads : History → List Read
 reads [] = []
 reads (e ∷ h) = reads_by h e.actor e.event ++ reads h
 
-abbrev pub is_start : Event → Bool
-is_start (Start number line) = true
-is_start event = false
-
 -- the history before the last Start of a mover
 unfoldable pub before_start : Actor → History → History
 before_start a [] = []
@@ -55,27 +51,27 @@ abbrev pub start_of : Read → History
 start_of read = before_start (Session read.session) read.before
 
 -- the line of the command that is under way, where it is a read
-abbrev pub places_of : Option Command → List Place
-places_of (Some (command.Read strict places)) = places
-places_of (Some (command.Scan strict place)) = place ∷ []
-places_of line = []
+abbrev pub places_asked : Option Command → List Place
+places_asked (Some (command.Read strict places)) = places
+places_asked (Some (command.Scan strict place)) = place ∷ []
+places_asked line = []
 
 abbrev pub line_of : Config → Read → Option Command
 line_of config read = (mover_at config (Session read.session) read.before).line
 
 abbrev pub paths_asked : Config → Read → List Parts
-paths_asked config read = map (λ (p : Place). p.path) (places_of (line_of config read))
+paths_asked config read = map (λ (p : Place). p.path) (places_asked (line_of config read))
 
 -- the transaction that the session has open where the read starts
 abbrev pub opened_at : Config → Read → Option Opened
 opened_at config read = (mover_at config (Session read.session) (start_of read)).keeps.opened
 
-abbrev pub txn_of : Option Opened → Option ℕ
-txn_of None = None
-txn_of (Some x) = Some x.meta.txn
+abbrev pub open_txn : Option Opened → Option ℕ
+open_txn None = None
+open_txn (Some x) = Some x.meta.txn
 
 abbrev pub inside : Config → Read → Option ℕ
-inside config read = txn_of (opened_at config read)
+inside config read = open_txn (opened_at config read)
 
 -- the time told to the first finished read inside a transaction, and that of its Began
 abbrev pub is_inside : Config → ℕ → Read → Bool
@@ -135,13 +131,13 @@ met_heard (Hear from (reply.Met at path)) = Some at
 met_heard event = None
 
 -- the times that a mover heard as met since its last Start, the newest first
-abbrev pub met_then : Actor → Entry → List ℕ → List ℕ
-met_then a e earlier = elim (met_heard e.event) [ Some at ↦ at ∷ earlier | None ↦ earlier ]
+abbrev pub with_met : Actor → Entry → List ℕ → List ℕ
+with_met a e earlier = elim (met_heard e.event) [ Some at ↦ at ∷ earlier | None ↦ earlier ]
 
 unfoldable pub met_since : Actor → History → List ℕ
 met_since a [] = []
 met_since a (e ∷ h) =
-    if same_actor e.actor a then (if is_start e.event then [] else met_then a e (met_since a h)) else met_since a h
+    if same_actor e.actor a then (if is_start e.event then [] else with_met a e (met_since a h)) else met_since a h
 
 abbrev pub met_of : Read → List ℕ
 met_of read = met_since (Session read.session) read.before
@@ -201,10 +197,10 @@ abbrev pub ReadsUpTo : ℕ → Option ℕ → Type 0
 ReadsUpTo most None = Unit {0}
 ReadsUpTo most (Some reading) = reading ≤ most
 
--- clocks agree within the skew: each reading before the origin is at most the read's own plus the skew
-abbrev pub SkewHeld : Config → Read → Type 0
-SkewHeld config read =
-    (e : Entry) → Member e (origin config read) → ReadsUpTo (own_reading config read + config.skew_us) e.reading
+-- clocks agree within this skew: each reading before the origin is at most the read's own plus the skew
+abbrev pub SkewHeld : Config → ℕ → Read → Type 0
+SkewHeld config skew read =
+    (e : Entry) → Member e (origin config read) → ReadsUpTo (own_reading config read + skew) e.reading
 
 -- a read is fresh: it is not earlier than what was known
 abbrev pub Fresh : Config → History → Read → Type 0

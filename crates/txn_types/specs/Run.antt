@@ -28,12 +28,12 @@ use Rattle.txn_types.specs.Program.{Program, Done, Asks, Reads, Turn, heard, tur
 use Rattle.txn_types.specs.ReadProgram.{with_limit}
 use Rattle.txn_types.specs.TxnProgram.{lost}
 use Rattle.txn_types.specs.PassProgram.{pass_program}
-use Rattle.txn_types.specs.Session.{Keeps, Opened, at_first, command_program, keeps_after}
+use Rattle.txn_types.specs.Session.{Keeps, Opened, IsOpen, at_first, command_program, keeps_after}
 use Rattle.txn_types.specs.Plan.{IsCluster, IsLine, IsSession}
 
 -- how far a mover has come: what it keeps between commands, how many it began, the line of the one under way, what is
 -- left of it, the reading that stands in its first Ask, the limits of the open transaction, and whether it may still be
--- told want of memory
+-- told out of memory
 pub record Mover : Type 0 where
   pub keeps : Keeps
   pub commands : ℕ
@@ -56,8 +56,8 @@ abbrev pub limits_of : Option Opened → List TabletLimit
 limits_of None = []
 limits_of (Some x) = x.limits
 
--- after a refusal, or a reply to Begin, Write, Single, Commit or Abort, a session's command ends with no want of memory of
--- its own
+-- after a refusal, or a reply to Begin, Write, Single, Commit or Abort, the session itself ends the
+-- command with out of memory no more
 abbrev pub is_settling : Reply → Bool
 is_settling (reply.Refused why) = true
 is_settling reply.Begun = true
@@ -123,7 +123,7 @@ pub data Flight : Type 0 where
   Asked : (to : Actor) (request : Request) → Flight
   Answered : (from : Actor) (reply : Reply) → Flight
 
--- one more entry of an actor: an Ask leaves, a Serve or a Restarted answers it, a Hear ends it, also one of want of memory
+-- one more entry of an actor: an Ask leaves, a Serve or a Restarted answers it, a Hear ends it, also one that says out of memory
 abbrev pub flight_after : Actor → Flight → Actor → Event → Flight
 flight_after m f a (Start number line) = f
 flight_after m f a (Ask to asked) = if same_actor a m then Asked to asked else f
@@ -136,7 +136,7 @@ unfoldable pub flight : Actor → History → Flight
 flight m [] = Quiet
 flight m (e ∷ h) = flight_after m (flight m h) e.actor e.event
 
--- a reply that is there, or want of memory in the place of one that is not
+-- a reply that is there, or out of memory in the place of one that is not
 abbrev pub CanHear : Flight → Actor → Reply → Type 0
 CanHear Quiet from r = ⊥
 CanHear (Asked to asked) from r = (to ≡ from) × (r ≡ reply.Refused refusal.Memory)
@@ -173,10 +173,6 @@ IsMachine config (Status j) = j < config.status
 IsMachine config a = ⊥
 
 -- a session ends by End only where it has a transaction open
-abbrev pub IsOpen : Option Opened → Type 0
-IsOpen None = ⊥
-IsOpen (Some x) = Unit {0}
-
 abbrev pub StartsLine : Config → Option Opened → Command → Type 0
 StartsLine config opened command.End = IsOpen opened
 StartsLine config opened line = IsLine config line
@@ -187,7 +183,7 @@ MayStart config (Session i) m line = IsSession i × (m.commands < 2 ^ 40) × Sta
 MayStart config (Applier k) m line = (k < config.tablets) × (line ≡ command.Apply k)
 MayStart config a m line = ⊥
 
--- what a command is told: what it came to, or want of memory where that may still be told
+-- what a command is told: what it came to, or out of memory where that may still be told
 abbrev pub CanTell : Mover → Option ℕ → Told → Type 0
 CanTell m reading t =
     (turn_with m.rest reading ≡ program.Tell t)

@@ -18,8 +18,9 @@ use Rattle.txn_data.specs.declared.event.Event.{Event}
 use Rattle.txn_data.specs.declared.event.Event.TheVariants.{Start, Serve, Tell, Restarted}
 use Rattle.txn_data.specs.declared.entry.Entry.{Entry}
 use Rattle.txn_types.specs.Lists.{Member}
-use Rattle.txn_types.specs.History.{History, same_actor}
+use Rattle.txn_types.specs.History.{History, same_actor, is_start}
 use Rattle.txn_types.specs.Session.{Opened}
+use Rattle.txn_types.specs.Plan.{IsCluster, IsPlan}
 use Rattle.txn_types.specs.Run.{mover_at}
 
 -- the lines that a mover started, in their order
@@ -57,10 +58,6 @@ AllTold config plan i h =
 abbrev pub is_told : Actor → Event → Bool
 is_told (Session i) (Tell number t) = true
 is_told a event = false
-
-abbrev pub is_start : Event → Bool
-is_start (Start number line) = true
-is_start event = false
 
 -- whether a session was told something since the last Start of this actor
 unfoldable pub told_since : Actor → History → Bool
@@ -237,6 +234,14 @@ unfoldable pub ReadingsAsTold : Config → History → Type 0
 ReadingsAsTold config [] = Unit {0}
 ReadingsAsTold config (e ∷ h) =
     ReadingsAsTold config h × ReadsRight (reading_of config (node_of config e.actor) h) e.reading
+
+-- a plan that can be run: what a world asks of its plan, one first reading for each node, and an order that names each
+-- session as often as it has lines
+pub record IsRunnable (config : Config) (plan : Commands) : Type 0 where
+  pub cluster : IsCluster config
+  pub lines : IsPlan config plan
+  pub readings : length config.start_us ≡ config.nodes
+  pub order : (i : ℕ) → count i plan.order ≡ length (commands_of i plan.sessions)
 
 -- the moves are those of the schedule and then the last passes by tablet, and each reading is the node's
 pub record Scheduled (config : Config) (plan : Commands) (h : History) : Type 0 where

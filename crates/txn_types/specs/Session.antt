@@ -50,6 +50,11 @@ pub record Opened : Type 0 where
   pub has_read : Bool
   pub in_doubt : Bool
 
+-- a transaction is open
+abbrev pub IsOpen : Option Opened → Type 0
+IsOpen None = ⊥
+IsOpen (Some x) = Unit {0}
+
 -- what a session keeps: its time, the serial number that it used last, and its open transaction
 pub record Keeps : Type 0 where
   pub last : ℕ

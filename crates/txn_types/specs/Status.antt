@@ -12,7 +12,7 @@ use Rattle.txn_data.specs.declared.event.Event.{Event}
 use Rattle.txn_data.specs.declared.event.Event.TheVariants.{Serve, Restarted}
 use Rattle.txn_types.specs.Lists.{has_number}
 use Rattle.txn_types.specs.History.{History, standing}
-use Rattle.txn_types.specs.Clock.{Answer, told_only, refused, logged, Own, Floor, timed, down_since}
+use Rattle.txn_types.specs.Clock.{Answer, told_only, refusal_answer, logged, Own, Floor, timed, down_since}
 
 -- what a status tablet keeps of a transaction
 pub data Record : Type 0 where
@@ -100,13 +100,13 @@ status_up lease h fails reading (request.Commit x floor tablets) =
 status_up lease h fails reading (request.Abort x) = abort_answer fails (record_of x h)
 status_up lease h fails reading (request.Applied x tablet) =
     logged fails (may_forget (is_sure x h) (tablet ∷ noted x h) (record_of x h)) None reply.Noted
-status_up lease h fails reading _ = refused refusal.Memory
+status_up lease h fails reading _ = refusal_answer refusal.Memory
 
 abbrev pub status_standing : Option ℕ → Answer → Answer
-status_standing (Some since) up = refused (refusal.Down since)
+status_standing (Some since) up = refusal_answer (refusal.Down since)
 status_standing None up = up
 
 -- what a status tablet answers; an answer to Restart is a load that failed
 abbrev pub status_answer : ℕ → History → Bool → ℕ → Request → Answer
-status_answer lease h fails reading request.Restart = refused refusal.LogFault
+status_answer lease h fails reading request.Restart = refusal_answer refusal.LogFault
 status_answer lease h fails reading asked = status_standing (down_since h) (status_up lease h fails reading asked)

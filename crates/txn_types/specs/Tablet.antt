@@ -27,7 +27,7 @@ use Rattle.txn_data.specs.declared.event.Event.TheVariants.{Serve}
 use Rattle.txn_types.specs.Lists.{sorted_by, rising, or_zero}
 use Rattle.txn_types.specs.Writes.{value, beneath}
 use Rattle.txn_types.specs.History.{History, standing}
-use Rattle.txn_types.specs.Clock.{Answer, told_only, refused, logged, Own, Floor, timed, down_since}
+use Rattle.txn_types.specs.Clock.{Answer, told_only, refusal_answer, logged, Own, Floor, timed, down_since}
 
 -- a provisional write, with what its record says of the transaction
 pub record Intent : Type 0 where
@@ -221,8 +221,8 @@ abbrev pub has_any : ℕ → List Intent → Bool
 has_any x ps = list_any (is_of x) ps
 
 abbrev pub write_answer : Option ℕ → Option ℕ → Answer → Answer
-write_answer (Some other) overlap done = refused (refusal.Conflict other)
-write_answer None (Some at) done = refused (refusal.Overlap at)
+write_answer (Some other) overlap done = refusal_answer (refusal.Conflict other)
+write_answer None (Some at) done = refusal_answer (refusal.Overlap at)
 write_answer None None done = done
 
 -- what a tablet that is up answers
@@ -246,13 +246,13 @@ tablet_up lease h fails reading (request.Apply x at) =
     if has_any x (provisional h) then timed lease h fails Floor at reading true (λ now. reply.AppliedHere)
     else told_only reply.AppliedHere
 tablet_up lease h fails reading (request.Clean x) = logged fails (has_any x (provisional h)) None reply.Cleaned
-tablet_up lease h fails reading _ = refused refusal.Memory
+tablet_up lease h fails reading _ = refusal_answer refusal.Memory
 
 abbrev pub tablet_standing : Option ℕ → Answer → Answer
-tablet_standing (Some since) up = refused (refusal.Down since)
+tablet_standing (Some since) up = refusal_answer (refusal.Down since)
 tablet_standing None up = up
 
 -- what a tablet answers; an answer to Restart is a load that failed
 abbrev pub tablet_answer : ℕ → History → Bool → ℕ → Request → Answer
-tablet_answer lease h fails reading request.Restart = refused refusal.LogFault
+tablet_answer lease h fails reading request.Restart = refusal_answer refusal.LogFault
 tablet_answer lease h fails reading asked = tablet_standing (down_since h) (tablet_up lease h fails reading asked)

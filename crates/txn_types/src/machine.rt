@@ -29,7 +29,7 @@ pub trait Machine {
     ghost count: { Self → ℕ };
 
     /// Serves a request of `from`, with the reading of its node's clock, in microseconds, where the request takes one.
-    /// After want of memory it is as before.
+    /// If memory runs out, it is as before.
     fn serve(&mut self, from: Actor, request: &Request, reading: Option<u64>) -> Served
         requires accepted { accepts self.old request.now }
         requires reading { ReadingGiven (takes_time request.now) reading }

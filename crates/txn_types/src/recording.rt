@@ -8,7 +8,7 @@ ghost use Rattle.txn_types.specs.Session.{txn_id};
 use docdb_base::Memory;
 use txn_data::{Actor, Config, Entry, Refusal, ToldRefusal, Trace, TxnId};
 
-/// Records an entry: histories are read with the newest entry first. After want of memory the trace is as before.
+/// Records an entry: histories are read with the newest entry first. If memory runs out, the trace is as before.
 pub fn record(trace: &mut Trace, entry: Entry) -> Result<(), Memory>
     ensures ok { OnOk result (history_of trace.new ≡ entry ∷ history_of trace.old) }
     ensures memory { OnErr result (trace.new.entries ≡ trace.old.entries) }

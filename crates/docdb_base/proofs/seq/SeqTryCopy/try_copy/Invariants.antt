@@ -2,4 +2,4 @@ use Rattle.std.proofs.Common.{◌≡◌, take}
 use Rattle.docdb_base.proofs.seq.SeqTryCopy.try_copy.Given as goal
 
 abbrev pub invariant-loop-item : goal.invariant-loop-item
-invariant-loop-item g l = l.copy ≡ take l.item-index l.item-items
+invariant-loop-item g l = l.items.items ≡ take l.item-index l.item-items

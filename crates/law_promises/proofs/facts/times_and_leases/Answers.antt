@@ -1,0 +1,11 @@
+use Rattle.law_clocks.proofs.Runs.{times_rise, times_keep_floors, counts_on, leases_cover, last_is_greatest}
+use Rattle.law_promises.proofs.facts.times_and_leases.Goals as goal
+
+pub returns : goal.returns
+returns c = record {
+  rise = times_rise;
+  floors = times_keep_floors;
+  counts = counts_on;
+  covered = leases_cover;
+  greatest = last_is_greatest;
+}

@@ -1,0 +1,5 @@
+use Rattle.law_steady_reads.proofs.FinalTimes.{reads_final}
+use Rattle.law_promises.proofs.promises.reads_are_final.Goals as goal
+
+pub returns : goal.returns
+returns c = reads_final

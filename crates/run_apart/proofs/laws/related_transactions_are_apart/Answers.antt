@@ -1,5 +1,0 @@
-use Rattle.run_apart.proofs.Rising.{related_apart}
-use Rattle.run_apart.proofs.laws.related_transactions_are_apart.Goals as goal
-
-pub returns : goal.returns
-returns c = related_apart

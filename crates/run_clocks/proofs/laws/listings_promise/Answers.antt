@@ -1,5 +1,0 @@
-use Rattle.run_clocks.proofs.Runs.{listings_promise}
-use Rattle.run_clocks.proofs.laws.listings_promise.Goals as goal
-
-pub returns : goal.returns
-returns c = listings_promise

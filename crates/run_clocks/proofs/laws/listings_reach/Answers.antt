@@ -1,5 +1,0 @@
-use Rattle.run_clocks.proofs.Runs.{listings_reach}
-use Rattle.run_clocks.proofs.laws.listings_reach.Goals as goal
-
-pub returns : goal.returns
-returns c = listings_reach

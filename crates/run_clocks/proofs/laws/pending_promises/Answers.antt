@@ -1,5 +1,0 @@
-use Rattle.run_clocks.proofs.Runs.{pending_promises}
-use Rattle.run_clocks.proofs.laws.pending_promises.Goals as goal
-
-pub returns : goal.returns
-returns c = pending_promises

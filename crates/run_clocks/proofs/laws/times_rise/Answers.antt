@@ -1,5 +1,0 @@
-use Rattle.run_clocks.proofs.Runs.{times_rise}
-use Rattle.run_clocks.proofs.laws.times_rise.Goals as goal
-
-pub returns : goal.returns
-returns c = times_rise

@@ -1,5 +1,0 @@
-use Rattle.run_courses.proofs.Courses.{told_came_about}
-use Rattle.run_courses.proofs.laws.told_commands_came_about.Goals as goal
-
-pub returns : goal.returns
-returns c = told_came_about

@@ -1,8 +1,0 @@
-//! The courses of told commands in every run, for proofs of callers. A call does nothing.
-ghost use Rattle.run_courses.specs.Laws.{ToldCommandsCameAbout};
-
-/// Each told command came about by the answers to its requests, one after another since its start, where want of memory may
-/// have been heard in place of one; or want of memory is told.
-pub fn told_commands_came_about()
-    ensures { ToldCommandsCameAbout }
-{}

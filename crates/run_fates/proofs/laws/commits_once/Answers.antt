@@ -1,5 +1,0 @@
-use Rattle.run_fates.proofs.Runs.{commits_once}
-use Rattle.run_fates.proofs.laws.commits_once.Goals as goal
-
-pub returns : goal.returns
-returns c = commits_once

@@ -1,5 +1,0 @@
-use Rattle.run_fates.proofs.Runs.{pending_above}
-use Rattle.run_fates.proofs.laws.pending_commits_above.Goals as goal
-
-pub returns : goal.returns
-returns c = pending_above

@@ -1,6 +1,0 @@
-use Rattle.run_fates.proofs.Runs.{told_committed, told_aborted}
-use Rattle.run_told_commits.proofs.Commits.{commit_times, told_there}
-use Rattle.run_laws.proofs.facts.told_fates.Goals as goal
-
-pub returns : goal.returns
-returns c = record { committed = told_committed; aborted = told_aborted; there = told_there; times = commit_times }

@@ -1,5 +1,0 @@
-use Rattle.run_limits.proofs.Runs.{limits_fixed}
-use Rattle.run_limits.proofs.laws.given_limits_were_fixed.Goals as goal
-
-pub returns : goal.returns
-returns c = limits_fixed

@@ -1,5 +1,0 @@
-use Rattle.run_limits.proofs.Origins.{limits_of_reads}
-use Rattle.run_limits.proofs.laws.limits_of_reads_were_fixed.Goals as goal
-
-pub returns : goal.returns
-returns c = limits_of_reads

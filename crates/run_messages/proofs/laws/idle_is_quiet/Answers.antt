@@ -1,5 +1,0 @@
-use Rattle.run_messages.proofs.Flights.{idle_quiet}
-use Rattle.run_messages.proofs.laws.idle_is_quiet.Goals as goal
-
-pub returns : goal.returns
-returns c = idle_quiet

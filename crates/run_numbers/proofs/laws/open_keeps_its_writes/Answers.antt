@@ -1,5 +1,0 @@
-use Rattle.run_numbers.proofs.Runs.{keeps}
-use Rattle.run_numbers.proofs.laws.open_keeps_its_writes.Goals as goal
-
-pub returns : goal.returns
-returns c = keeps

@@ -1,5 +1,0 @@
-use Rattle.run_order.proofs.Order.{in_commit_order}
-use Rattle.run_order.proofs.laws.related_writes_are_in_order.Goals as goal
-
-pub returns : goal.returns
-returns c = in_commit_order

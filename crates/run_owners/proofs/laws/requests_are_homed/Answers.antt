@@ -1,5 +1,0 @@
-use Rattle.run_owners.proofs.Runs.{requests_homed}
-use Rattle.run_owners.proofs.laws.requests_are_homed.Goals as goal
-
-pub returns : goal.returns
-returns c = requests_homed

@@ -1,5 +1,0 @@
-use Rattle.run_steady.proofs.Steady.{reads_steady}
-use Rattle.run_steady.proofs.laws.reads_are_steady.Goals as goal
-
-pub returns : goal.returns
-returns c = reads_steady

@@ -1,5 +1,0 @@
-use Rattle.run_told_commits.proofs.Commits.{commit_times}
-use Rattle.run_told_commits.proofs.laws.commit_times_are_told.Goals as goal
-
-pub returns : goal.returns
-returns c = commit_times

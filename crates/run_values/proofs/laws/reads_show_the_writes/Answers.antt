@@ -1,5 +1,0 @@
-use Rattle.run_values.proofs.Tablets.{reads_show}
-use Rattle.run_values.proofs.laws.reads_show_the_writes.Goals as goal
-
-pub returns : goal.returns
-returns c = reads_show

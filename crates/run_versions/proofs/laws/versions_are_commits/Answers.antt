@@ -1,5 +1,0 @@
-use Rattle.run_versions.proofs.Runs.{are_commits}
-use Rattle.run_versions.proofs.laws.versions_are_commits.Goals as goal
-
-pub returns : goal.returns
-returns c = are_commits

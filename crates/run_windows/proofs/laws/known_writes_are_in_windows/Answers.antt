@@ -1,5 +1,0 @@
-use Rattle.run_windows.proofs.Known.{known_writes}
-use Rattle.run_windows.proofs.laws.known_writes_are_in_windows.Goals as goal
-
-pub returns : goal.returns
-returns c = known_writes

@@ -1,5 +1,0 @@
-use Rattle.run_witness.proofs.Shows.{shows_all}
-use Rattle.run_witness.proofs.laws.a_run_shows_all.Goals as goal
-
-pub returns : goal.returns
-returns c = shows_all

@@ -1,5 +1,0 @@
-use Rattle.run_witness.proofs.Shows.{two_commit}
-use Rattle.run_witness.proofs.laws.two_writers_commit.Goals as goal
-
-pub returns : goal.returns
-returns c = two_commit

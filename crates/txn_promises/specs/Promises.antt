@@ -1,0 +1,46 @@
+-- What a run is promised, in one record over a cluster and its history.
+use Rattle.std.specs.Prelude.{◌≡◌, ℕ, ◌<◌, true, Some}
+use Rattle.txn_data.specs.declared.config.Config.{Config}
+use Rattle.txn_data.specs.declared.committed_txn.CommittedTxn.{CommittedTxn}
+use Rattle.txn_data.specs.declared.request.Request.TheVariants as request
+use Rattle.txn_data.specs.declared.event.Event.{Event}
+use Rattle.txn_data.specs.declared.event.Event.TheVariants.{Serve}
+use Rattle.txn_data.specs.declared.entry.Entry.{Entry}
+use Rattle.txn_types.specs.Lists.{Member}
+use Rattle.txn_types.specs.History.{History}
+use Rattle.txn_types.specs.Committed.{committed, committed_snapshots}
+use Rattle.txn_types.specs.Reads.{Read, reads, read_time, IsFinal, Right, SkewHeld, Fresh, Steady, related_writes, Apart}
+
+-- A finished read was told its final time. It shows what the fold of all commits up to that time leaves on the paths asked,
+-- with its transaction's own writes on top. It is not earlier than what its own session was told before. If clocks agreed
+-- within the skew, it is not earlier than any related commit that was told before it.
+pub record ReadKeeps (config : Config) (h : History) (read : Read) : Type 0 where
+  pub final : IsFinal config read
+  pub right : Right config h read
+  pub steady : Steady config h read
+  pub fresh : SkewHeld config config.skew_us read → Fresh config h read
+
+-- the event is a write of the transaction at a tablet, and took this time
+abbrev pub TookTime : ℕ → ℕ → Event → Type 0
+TookTime x w (Serve from (request.Write meta number path op read seen fates) r time append) = (meta.txn ≡ x) × (time ≡ Some w)
+TookTime x w event = ⊥
+
+-- A committed snapshot transaction committed above each of its provisional times and above its read time.
+pub record CommitKeeps (config : Config) (h : History) (x : CommittedTxn) : Type 0 where
+  pub above_writes : (e : Entry) (w : ℕ) → Member e h → TookTime x.txn w e.event → w < x.at
+  pub above_reads : read_time config h x.txn < x.at
+
+-- Two different committed transactions with related writes have different commit times; single writes are among them.
+abbrev pub CommitsDiffer : History → CommittedTxn → CommittedTxn → Type 0
+CommitsDiffer h x y = Member x (committed h) → Member y (committed h) → (x.txn ≡ y.txn → ⊥) → related_writes x y ≡ true → x.at ≡ y.at → ⊥
+
+-- Two different committed snapshot transactions with related writes do not overlap: one committed not later than the other
+-- read.
+abbrev pub WritersDoNotOverlap : Config → History → CommittedTxn → CommittedTxn → Type 0
+WritersDoNotOverlap config h x y = Member x (committed_snapshots h) → Member y (committed_snapshots h) → (x.txn ≡ y.txn → ⊥) → related_writes x y ≡ true → Apart config h x y
+
+pub record Promises (config : Config) (h : History) : Type 0 where
+  pub reads_keep : (read : Read) → Member read (reads h) → ReadKeeps config h read
+  pub commits_keep : (x : CommittedTxn) → Member x (committed_snapshots h) → CommitKeeps config h x
+  pub commits_differ : (x y : CommittedTxn) → CommitsDiffer h x y
+  pub writers_apart : (x y : CommittedTxn) → WritersDoNotOverlap config h x y

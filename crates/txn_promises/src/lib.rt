@@ -1,0 +1,5 @@
+//! What a run is promised, in one record, and what each command is answered.
+//!
+//! Definitions over a cluster and its history, above those of `txn_types`: whoever states that a history keeps its promises
+//! names `Promises`, and needs no law. That every run in which places agree keeps them is a law of `law_promises`.
+#![tactic(auto)]
