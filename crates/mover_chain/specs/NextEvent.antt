@@ -1,5 +1,5 @@
 -- What a mover does next, and whether it has an event left.
-use Rattle.std.specs.Prelude.{◌≡◌, ℕ, ◌+◌, Bool, true, false, ◌&&◌, List, [], ◌∷◌, Option, Some, None, nat_eq, nat_lt, if◌then◌else◌, length, drop, is_some}
+use Rattle.std.specs.Prelude.{◌≡◌, ℕ, ◌+◌, Bool, true, false, ◌&&◌, not, List, [], ◌∷◌, Option, Some, None, nat_eq, nat_lt, if◌then◌else◌, length, drop, is_some}
 use Rattle.std.specs.List.{list_all}
 use Rattle.txn_data.specs.declared.actor.Actor.{Actor}
 use Rattle.txn_data.specs.declared.actor.Actor.TheVariants.{Tablet, Status, Session, Applier}
@@ -11,11 +11,13 @@ use Rattle.txn_data.specs.declared.command.Command.TheVariants as command
 use Rattle.txn_data.specs.declared.session_plan.SessionPlan.{SessionPlan}
 use Rattle.txn_data.specs.declared.commands.Commands.{Commands}
 use Rattle.txn_data.specs.declared.config.Config.{Config}
+use Rattle.txn_data.specs.declared.event.Event.TheVariants.{Start}
+use Rattle.txn_data.specs.declared.entry.Entry.{Entry}
 use Rattle.txn_types.specs.History.{History}
 use Rattle.txn_types.specs.Program.{Program, Turn, turn_with}
 use Rattle.txn_types.specs.Session.{Opened}
 use Rattle.txn_types.specs.Run.{Flight, Quiet, Asked, Answered, flight, mover_at}
-use Rattle.txn_types.specs.Script.{lines, commands_of, started, passes_counted}
+use Rattle.txn_types.specs.Script.{lines, commands_of, asker, started, passes_counted, number_at, node_of, ReadsRight}
 
 -- the lines that sessions were given so far, and whether no more come
 pub record Given : Type 0 where
@@ -26,8 +28,10 @@ pub record Given : Type 0 where
 abbrev pub given_by : Commands → Given
 given_by plan = record { sessions = plan.sessions; all = true }
 
--- what a mover does next: it starts a line; the machine that it asked serves it; it hears a reply; or its program comes to
--- this, that it asks, is told, or takes a reading. Or it has no event left.
+-- what a mover does next as long as memory is there: it starts a line; the machine that it asked serves it; it hears a reply;
+-- or its program comes to this, that it asks or is told. If a reading is wanted for that, the Ask or Tell has it. Or the
+-- mover has no event left. If memory runs out, a mover may hear so in place of what is to be served, and be told so in place
+-- of going on: there it has an event left too.
 pub data NextEvent : Type 0 where
   NoneLeft : NextEvent
   Starts : (line : Command) → NextEvent
@@ -66,11 +70,14 @@ abbrev pub is_left : NextEvent → Bool
 is_left NoneLeft = false
 is_left next = true
 
--- a session has been told all that it was given, and that is all
+-- no more lines come, and each session was told its last command
 abbrev pub is_done : Given → Config → History → SessionPlan → Bool
-is_done given config h p = elim (session_next given.all p.commands config p.session h) [ NoneLeft ↦ given.all | _ ↦ false ]
+is_done given config h p = not (is_left (session_next given.all (commands_of p.session given.sessions) config p.session h))
 
--- an applier makes its passes beside the sessions, and a last one once all of them are done
+abbrev pub all_done : Given → Config → History → Bool
+all_done given config h = given.all && list_all (is_done given config h) given.sessions
+
+-- an applier makes its passes beside the sessions, and a last one once all of that is done
 abbrev pub pass_starts : ℕ → ℕ → ℕ → Bool → NextEvent
 pass_starts k passes begun done =
     if nat_lt begun passes then Starts (command.Apply k)
@@ -81,7 +88,7 @@ applier_next given config k h =
     let m = mover_at config (Applier k) h in
     elim m.line [
       | Some line ↦ goes_on (flight (Applier k) h) m.rest
-      | None ↦ pass_starts k config.passes (started (Applier k) h) (list_all (is_done given config h) given.sessions)
+      | None ↦ pass_starts k config.passes (started (Applier k) h) (all_done given config h)
     ]
 
 -- what a mover does next; an applier whose tablet is not there does nothing
@@ -100,3 +107,11 @@ abbrev pub has_event : Given → Config → Actor → History → Bool
 has_event given config a h =
     is_left (next_event given config a h)
     && passes_counted config a (number_of_next (started a h) (mover_at config a h).line)
+
+-- an entry is the move of this mover: it makes the entry itself, or asked for what the entry serves; it has an event left; a
+-- line that it starts is its next one; and a reading is the one given for the node of the entry's actor
+pub record IsMove (given : Given) (config : Config) (readings : List ℕ) (a : Actor) (h : History) (e : Entry) : Type 0 where
+  pub by : asker e ≡ a
+  pub left : is_left (next_event given config a h) ≡ true
+  pub starts : (number : ℕ) (line : Command) → e.event ≡ Start number line → next_event given config a h ≡ Starts line
+  pub reads : ReadsRight (number_at (node_of config e.actor) readings) e.reading

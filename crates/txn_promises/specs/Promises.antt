@@ -1,4 +1,5 @@
--- What a run is promised, in one record over a cluster and its history.
+-- What the finished reads and the committed transactions of a run are promised, in one record over a cluster and its history.
+-- Why a command may be refused is said by `Cause`, what is left at the end by `Settled`.
 use Rattle.std.specs.Prelude.{◌≡◌, ℕ, ◌<◌, true, Some}
 use Rattle.txn_data.specs.declared.config.Config.{Config}
 use Rattle.txn_data.specs.declared.committed_txn.CommittedTxn.{CommittedTxn}
@@ -12,8 +13,9 @@ use Rattle.txn_types.specs.Committed.{committed, committed_snapshots}
 use Rattle.txn_types.specs.Reads.{Read, reads, read_time, IsFinal, Right, SkewHeld, Fresh, Steady, related_writes, Apart}
 
 -- A finished read was told its final time. It shows what the fold of all commits up to that time leaves on the paths asked,
--- with its transaction's own writes on top. It is not earlier than what its own session was told before. If clocks agreed
--- within the skew, it is not earlier than any related commit that was told before it.
+-- with its transaction's own writes on top. It is not earlier than what its own session was told before it began. If clocks
+-- agreed within the skew, it is not earlier than any related commit that was told to anybody before it began. A read inside a
+-- transaction begins with its transaction.
 pub record ReadKeeps (config : Config) (h : History) (read : Read) : Type 0 where
   pub final : IsFinal config read
   pub right : Right config h read

@@ -1,4 +1,4 @@
-//! What a run is promised, in one record, and what each command is answered.
+//! What the reads and the committed transactions of a run are promised, in one record, and what each command may be answered.
 //!
 //! Definitions over a cluster and its history, above those of `txn_types`: whoever states that a history keeps its promises
 //! names `Promises`, and needs no law. That every run in which places agree keeps them is a law of `law_promises`.

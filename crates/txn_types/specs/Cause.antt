@@ -168,7 +168,7 @@ ResolvesHigher x by a (Serve from (request.Resolve y z priority) r time append) 
     (y ≡ x) × (z ≡ by) × ((own_priority : ℕ) × (record_of x (own a h) ≡ status.Pending own_priority) × (own_priority < priority))
 ResolvesHigher x by a event h = ⊥
 
--- such a Resolve of the actor stands in its log, where `later` are the entries that follow
+-- such a Resolve, served by this actor, stands in its log, where `later` are the entries that follow, in their order
 unfoldable pub ResolvedBefore : List Entry → ℕ → ℕ → Actor → History → Type 0
 ResolvedBefore later x by a [] = ⊥
 ResolvedBefore later x by a (e ∷ h) =
@@ -320,6 +320,6 @@ CauseOf config t why.InDoubt =
     (works_inside m.line ≡ true) × InDoubt m.keeps.opened (before_start t.who t.before)
 CauseOf config t why.Memory = Unit {0}
 
--- each refusal has its cause; out of memory is free
+-- each refusal has its cause; out of memory needs none
 abbrev pub Cause : Config → ToldAt → Type 0
 Cause config t = elim t.told [ told.Refused refusal ↦ CauseOf config t refusal | _ ↦ Unit {0} ]

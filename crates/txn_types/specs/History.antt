@@ -67,7 +67,7 @@ was_logged (Serve from request reply time Nothing) = false
 was_logged (Serve from request reply time append) = true
 was_logged _ = false
 
--- an entry counts and had something to log, where `later` are the entries that follow
+-- an entry counts and had something to log, where `later` are the entries that follow, in their order
 abbrev pub stands_in_log : List Entry → Entry → Bool
 stands_in_log later e = event_counts e.event (next_restart_kept e.actor later) && was_logged e.event
 

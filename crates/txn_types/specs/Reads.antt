@@ -50,7 +50,7 @@ before_start a (e ∷ h) = if same_actor e.actor a && is_start e.event then h el
 abbrev pub start_of : Read → History
 start_of read = before_start (Session read.session) read.before
 
--- the line of the command that is under way, where it is a read
+-- the places that a line asks for, where it is a read
 abbrev pub places_asked : Option Command → List Place
 places_asked (Some (command.Read strict places)) = places
 places_asked (Some (command.Scan strict place)) = place ∷ []

@@ -56,8 +56,8 @@ abbrev pub limits_of : Option Opened → List TabletLimit
 limits_of None = []
 limits_of (Some x) = x.limits
 
--- after a refusal, or a reply to Begin, Write, Single, Commit or Abort, the session itself ends the
--- command with out of memory no more
+-- after a refusal, or a reply to Begin, Write, Single, Commit or Abort, a session no longer gives its command up because
+-- it runs out of memory itself
 abbrev pub is_settling : Reply → Bool
 is_settling (reply.Refused why) = true
 is_settling reply.Begun = true

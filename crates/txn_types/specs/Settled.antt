@@ -36,6 +36,7 @@ abbrev pub SettledBy : History → ℕ → Option Told → Type 0
 SettledBy h k (Some (told.Passed applied cleaned left)) = Settled h k left
 SettledBy h k t = Unit {0}
 
--- so is each tablet of the cluster
+-- so is each tablet of the cluster; of a history in which all of a plan is done, where what an applier was told last is what
+-- its last pass was told
 abbrev pub AllSettled : Config → History → Type 0
 AllSettled config h = (k : ℕ) → k < config.tablets → SettledBy h k (last_told (Applier k) h)
