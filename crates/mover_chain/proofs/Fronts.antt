@@ -1,5 +1,5 @@
 -- The lines that a session started, against those of its plan.
-use Rattle.std.proofs.Common.{◌≡◌, ℕ, true, false, List, [], ◌∷◌, ◌++◌, Option, Some, None, drop, length, refl, sym, ◌∙◌, ap, subst, inl, inr, ◌⊎◌, nat_eq, ◌+◌, arith}
+use Rattle.std.proofs.Common.{◌≡◌, ℕ, true, false, List, [], ◌∷◌, ◌++◌, Option, Some, None, drop, length, refl, sym, ◌∙◌, ap, inl, inr, ◌⊎◌, nat_eq, ◌+◌, arith}
 use Rattle.std.proofs.Math.Seq.{append_snoc, drop-append_seam, drop-length}
 use Rattle.std.proofs.lemmas.List.{take-append-drop, same_from_push, append-nil, drop_all, length-append}
 use Rattle.txn_data.specs.declared.command.Command.{Command}
@@ -7,7 +7,7 @@ use Rattle.txn_data.specs.declared.command.Command.TheVariants as command
 use Rattle.txn_types.specs.Session.{Opened, IsOpen}
 use Rattle.txn_types.specs.Script.{FollowsLines}
 use Rattle.law_machines.proofs.Basics.{eq_refl, eq_cases}
-use Rattle.mover_chain.specs.NextEvent.{starts_next, may_end, session_starts, is_left}
+use Rattle.mover_chain.specs.NextEvent.{session_starts, is_left}
 
 -- they are the first ones of the plan, or all of them and then End
 abbrev pub Front : List Command → List Command → Type 0

@@ -1,28 +1,13 @@
 -- At each moment of a run that does all of a plan, a mover has an event left exactly where the schedules count one.
-use Rattle.std.proofs.Common.{◌≡◌, ℕ, zero, suc, ◌+◌, ◌-◌, ◌<◌, ◌≤◌, Bool, true, false, ◌&&◌, if◌then◌else◌, nat_eq, nat_lt, List, [], ◌∷◌, ◌++◌, Option, Some, None, length, map, reverse, refl, sym, ◌∙◌, ap, subst, inl, inr, ◌⊎◌, arith}
-use Rattle.std.proofs.lemmas.Bool.{ltb-true, ltb-false, lt-ltb, le-ltb}
-use Rattle.std.proofs.lemmas.List.{append-nil, length-append}
+use Rattle.std.proofs.Common.{◌≡◌, ℕ, ◌+◌, ◌-◌, ◌<◌, ◌≤◌, Bool, true, false, ◌&&◌, if◌then◌else◌, nat_lt, List, [], ◌∷◌, ◌++◌, map, reverse, refl, sym, ◌∙◌, ap, inl, inr, ◌⊎◌, arith}
+use Rattle.std.proofs.lemmas.Bool.{lt-ltb, le-ltb}
 use Rattle.std.proofs.lemmas.Grind.{reverse_onto}
 use Rattle.txn_data.specs.declared.actor.Actor.{Actor}
-use Rattle.txn_data.specs.declared.actor.Actor.TheVariants.{Session, Applier}
-use Rattle.txn_data.specs.declared.command.Command.{Command}
-use Rattle.txn_data.specs.declared.command.Command.TheVariants as command
-use Rattle.txn_data.specs.declared.session_plan.SessionPlan.{SessionPlan}
-use Rattle.txn_data.specs.declared.commands.Commands.{Commands}
 use Rattle.txn_data.specs.declared.config.Config.{Config}
-use Rattle.txn_data.specs.declared.event.Event.{Event}
-use Rattle.txn_data.specs.declared.event.Event.TheVariants.{Start, Ask, Serve, Hear, Tell, Restarted}
 use Rattle.txn_data.specs.declared.entry.Entry.{Entry}
-use Rattle.txn_types.specs.Lists.{Member}
 use Rattle.txn_types.specs.History.{History, same_actor}
-use Rattle.txn_types.specs.Session.{Opened, IsOpen}
-use Rattle.txn_types.specs.Run.{mover_at, flight, IsUnderWay, Allowed, Steps, StartsLine}
-use Rattle.txn_types.specs.Script.{lines, line_by, commands_of, asker, started, passes_counted, entries_beside, named, moves}
-use Rattle.law_machines.proofs.Basics.{test_cases, same_true}
-use Rattle.mover_chain.specs.NextEvent.{is_left, session_starts}
-use Rattle.mover_chain.proofs.Fronts.{Front, front_before, line_is_left}
-use Rattle.mover_chain.proofs.Lines.{lines_own, lines_other}
-use Rattle.mover_chain.proofs.States.{session_left, applier_left, Same, another_moves, moving_under_way, steps_before, own_allowed, heard_moves, served_moves, restarted_moves}
+use Rattle.txn_types.specs.Script.{asker, started, passes_counted, entries_beside, named, moves}
+use Rattle.law_machines.proofs.Basics.{test_cases}
 
 -- ## counts
 

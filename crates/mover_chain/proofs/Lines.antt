@@ -1,5 +1,5 @@
 -- The lines that a mover started, entry by entry.
-use Rattle.std.proofs.Common.{◌≡◌, ℕ, true, false, List, [], ◌∷◌, ◌++◌, refl, sym, subst, ap, inl, inr}
+use Rattle.std.proofs.Common.{◌≡◌, ℕ, true, false, [], ◌∷◌, ◌++◌, refl, subst, ap, inl, inr}
 use Rattle.txn_data.specs.declared.actor.Actor.{Actor}
 use Rattle.txn_data.specs.declared.command.Command.{Command}
 use Rattle.txn_data.specs.declared.event.Event.TheVariants.{Start}
@@ -16,6 +16,10 @@ lines_own a e h is = rw is refl
 pub lines_other : (a : Actor) (e : Entry) (h : History) → same_actor e.actor a ≡ false → lines a (e ∷ h) ≡ lines a h
 unfolding lines
 lines_other a e h is = rw is refl
+
+pub no_lines : (a : Actor) → lines a [] ≡ []
+unfolding lines
+no_lines a = refl
 
 -- a line that was started is among them
 pub line_started : (a : Actor) (h : History) (e : Entry) (number : ℕ) (line : Command) → Member e h → e.actor ≡ a → e.event ≡ Start number line → Member line (lines a h)

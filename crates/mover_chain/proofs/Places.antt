@@ -1,5 +1,5 @@
 -- In a run that follows a plan, the places of its lines are places of the plan.
-use Rattle.std.proofs.Common.{◌≡◌, ℕ, zero, suc, Bool, true, false, if◌then◌else◌, nat_eq, List, [], ◌∷◌, ◌++◌, take, flat_map, refl, sym, subst, inl, inr}
+use Rattle.std.proofs.Common.{◌≡◌, ℕ, zero, suc, Bool, if◌then◌else◌, nat_eq, List, [], ◌∷◌, take, flat_map, refl, sym, subst, inl, inr}
 use Rattle.txn_data.specs.declared.actor.Actor.{Actor}
 use Rattle.txn_data.specs.declared.actor.Actor.TheVariants.{Tablet, Status, Session, Applier}
 use Rattle.txn_data.specs.declared.place.Place.{Place}
@@ -16,7 +16,7 @@ use Rattle.txn_types.specs.History.{History}
 use Rattle.txn_types.specs.Plan.{places_of, started_places, plan_places}
 use Rattle.txn_types.specs.Run.{Mover, mover_at, MayStart, Allowed, Steps}
 use Rattle.txn_types.specs.Script.{lines, commands_of, FollowsLines, Follows}
-use Rattle.law_machines.proofs.Basics.{test_cases, eq_true, member_cases, member_left, member_right, member_flat, flat_member}
+use Rattle.law_machines.proofs.Basics.{test_cases, member_cases, member_left, member_right, member_flat, flat_member}
 use Rattle.mover_chain.specs.Laws.{PlansAgree}
 use Rattle.mover_chain.proofs.Lines.{line_started}
 

@@ -1,11 +1,11 @@
 -- Whether a mover has an event left, read off its line under way, its lines and its open transaction; and what each entry
 -- does to these.
-use Rattle.std.proofs.Common.{◌≡◌, ℕ, zero, suc, ◌+◌, ◌<◌, ◌≤◌, Bool, true, false, ◌&&◌, if◌then◌else◌, nat_eq, nat_lt, List, [], ◌∷◌, ◌++◌, Option, Some, None, length, refl, sym, ◌∙◌, ap, subst, inl, inr, ◌⊎◌, arith}
+use Rattle.std.proofs.Common.{◌≡◌, ℕ, ◌+◌, Bool, true, false, ◌&&◌, if◌then◌else◌, nat_lt, List, [], ◌∷◌, Option, Some, None, refl, ◌∙◌, ap, subst, inl, inr, arith}
 use Rattle.std.proofs.Math.Bool.{and-true}
 use Rattle.std.proofs.lemmas.Bool.{ltb-true, ltb-false, lt-ltb, le-ltb}
 use Rattle.std.proofs.lemmas.List.{append-nil}
 use Rattle.txn_data.specs.declared.actor.Actor.{Actor}
-use Rattle.txn_data.specs.declared.actor.Actor.TheVariants.{Tablet, Status, Session, Applier}
+use Rattle.txn_data.specs.declared.actor.Actor.TheVariants.{Session, Applier}
 use Rattle.txn_data.specs.declared.command.Command.{Command}
 use Rattle.txn_data.specs.declared.commands.Commands.{Commands}
 use Rattle.txn_data.specs.declared.config.Config.{Config}
@@ -23,7 +23,7 @@ use Rattle.txn_types.specs.Program.{Program}
 use Rattle.txn_types.specs.Session.{Opened}
 use Rattle.txn_types.specs.Run.{Mover, mover_at, mover_after, Flight, Quiet, Asked, Answered, flight, flight_after, IsUnderWay, Allowed, Steps, CanHear}
 use Rattle.txn_types.specs.Script.{lines, line_by, commands_of, asker, started, passes_counted}
-use Rattle.law_machines.proofs.Basics.{test_cases, same_true, same_of}
+use Rattle.law_machines.proofs.Basics.{test_cases, same_true}
 use Rattle.mover_chain.specs.NextEvent.{goes_on, is_left, session_starts, pass_starts, given_by, has_event, all_done, number_of_next}
 use Rattle.mover_chain.proofs.Lines.{lines_own, lines_other}
 
@@ -94,6 +94,7 @@ applier_has config plan k h there = rw there (by_line (mover_at config (Applier 
   where
     done : Bool
     done = all_done (given_by plan) config h
+
     by_line : (line : Option Command) →
         (is_left (elim line [ Some l ↦ goes_on (flight (Applier k) h) (mover_at config (Applier k) h).rest | None ↦ pass_starts k config.passes (started (Applier k) h) done ])
         && passes_counted config (Applier k) (number_of_next (started (Applier k) h) line))
@@ -186,8 +187,10 @@ moving_step config a e h steps before moving = by_event e.event refl
   where
     allowed : Allowed config h e.actor e.reading e.event
     allowed = (steps_before config e h steps).1
+
     now : (event : Event) → e.event ≡ event → IsMoving (flight_after a (flight a h) e.actor event)
     now event is = subst (λ (v : Event). IsMoving (flight_after a (flight a h) e.actor v)) is (subst IsMoving (flight_step a e h) moving)
+
     by_event : (event : Event) → e.event ≡ event → IsUnderWay (mover_at config a (e ∷ h)).line
     by_event (Start number line) is = elim (test_cases (same_actor e.actor a)) [
       | inl own ↦ under_own config a e h own (rw is tt)

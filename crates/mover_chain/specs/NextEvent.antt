@@ -2,7 +2,7 @@
 use Rattle.std.specs.Prelude.{◌≡◌, ℕ, ◌+◌, Bool, true, false, ◌&&◌, not, List, [], ◌∷◌, Option, Some, None, nat_eq, nat_lt, if◌then◌else◌, length, drop, is_some}
 use Rattle.std.specs.List.{list_all}
 use Rattle.txn_data.specs.declared.actor.Actor.{Actor}
-use Rattle.txn_data.specs.declared.actor.Actor.TheVariants.{Tablet, Status, Session, Applier}
+use Rattle.txn_data.specs.declared.actor.Actor.TheVariants.{Session, Applier}
 use Rattle.txn_data.specs.declared.request.Request.{Request}
 use Rattle.txn_data.specs.declared.reply.Reply.{Reply}
 use Rattle.txn_data.specs.declared.told.Told.{Told}
