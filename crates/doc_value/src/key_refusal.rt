@@ -48,9 +48,18 @@ impl fmt::Display for KeyRefusal {
         match self {
             KeyRefusal::BadTag { at } => write!(f, "a tag that may not stand at byte {at}"),
             KeyRefusal::Truncated { at } => write!(f, "the bytes end before byte {at}"),
-            KeyRefusal::BadText { at } => write!(f, "a byte of a text that may not stand at byte {at}"),
-            KeyRefusal::BadHash { at } => write!(f, "the hash at byte {at} is not that of the columns"),
-            KeyRefusal::TooMany { at } => write!(f, "a ninth column or a fifth subkey at byte {at}"),
+            KeyRefusal::BadText { at } => write!(
+                f,
+                "a byte of a text that may not stand at byte {at}"
+            ),
+            KeyRefusal::BadHash { at } => write!(
+                f,
+                "the hash at byte {at} is not that of the columns"
+            ),
+            KeyRefusal::TooMany { at } => write!(
+                f,
+                "a ninth column or a fifth subkey at byte {at}"
+            ),
             KeyRefusal::TooLong { at } => write!(f, "a text of more than 256 bytes at byte {at}"),
             KeyRefusal::Spare { at } => write!(f, "a spare byte at byte {at}"),
             KeyRefusal::Memory => f.write_str("out of memory"),

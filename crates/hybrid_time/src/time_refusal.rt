@@ -16,7 +16,10 @@ impl fmt::Display for TimeRefusal {
     fn fmt<W: fmt::Write>(&self, f: &mut fmt::Formatter<W>) -> fmt::Result {
         match self {
             TimeRefusal::ClockFull { at } => write!(f, "the logical counter of {at} is at its end"),
-            TimeRefusal::ClockRange { reading } => write!(f, "the reading {reading} is above the greatest that a clock takes"),
+            TimeRefusal::ClockRange { reading } => write!(
+                f,
+                "the reading {reading} is above the greatest that a clock takes"
+            ),
         }
     }
 }

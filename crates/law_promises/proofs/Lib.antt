@@ -1,3 +1,4 @@
 pub mod Cases
 pub mod TabletCases
 pub mod ReadCases
+pub mod KeepsPromises

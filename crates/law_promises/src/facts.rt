@@ -1,7 +1,8 @@
 //! The facts on which what a read has to answer rests. A call does nothing.
 ghost use Rattle.law_promises.specs.Facts.{TimesAndLeases, PendingPromise, CommitTimes, ToldFates, SessionOrder, ListingPromise, CommittedWrites, RelatedWrites};
 
-/// Times rise over restarts, and with failed appends that a log kept or lost; leases cover them.
+/// Times rise over restarts, and with failed appends that a log kept or lost; leases cover them; and their microseconds come
+/// from readings.
 pub fn times_and_leases()
     ensures { TimesAndLeases }
 {}
@@ -11,7 +12,7 @@ pub fn pending_promise()
     ensures { PendingPromise }
 {}
 
-/// A transaction commits once, above all its writes and above the time that each of them read at.
+/// A transaction commits once, above all its writes, above the time that each of them read at and above its read time.
 pub fn commit_times()
     ensures { CommitTimes }
 {}
@@ -27,13 +28,13 @@ pub fn session_order()
     ensures { SessionOrder }
 {}
 
-/// After a tablet listed for a read, it writes only above the read's time.
+/// After a tablet listed for a read, it writes only above the read's time and above the local limit that it answered.
 pub fn listing_promise()
     ensures { ListingPromise }
 {}
 
-/// Each accepted write of a committed transaction is provisional at its tablet, with its record there, or a version with its
-/// path and the commit time stands there; once applied, it is not provisional again.
+/// Each write of what is committed is a version at its tablet, or provisional there with its record; nothing else is a
+/// version, and none gives way; once applied, a write is not provisional again.
 pub fn committed_writes()
     ensures { CommittedWrites }
 {}

@@ -15,5 +15,6 @@ pub use facts::{
     session_order, times_and_leases, told_fates,
 };
 pub use promises::{
-    reads_are_final, reads_are_fresh, reads_are_right, reads_are_steady, writers_are_apart,
+    reads_are_final, reads_are_fresh, reads_are_right, reads_are_steady, runs_keep_promises,
+    writers_are_apart,
 };

@@ -1,4 +1,5 @@
 //! What finished reads and committed writers are promised, in every run. A call does nothing.
+ghost use Rattle.law_promises.specs.Laws.{RunsKeepPromises};
 ghost use Rattle.law_apart.specs.Laws.{RelatedAreApart};
 ghost use Rattle.law_fresh_reads.specs.Laws.{ReadsAreFresh};
 ghost use Rattle.law_right_reads.specs.Laws.{ReadsAreRight};
@@ -29,4 +30,9 @@ pub fn reads_are_steady()
 /// Of two committed snapshot transactions with related writes, one committed not later than the other read.
 pub fn writers_are_apart()
     ensures { RelatedAreApart }
+{}
+
+/// Every run in which places with equal first parts name one tablet keeps all of this: reads, writers and commit times.
+pub fn runs_keep_promises()
+    ensures { RunsKeepPromises }
 {}

@@ -43,8 +43,14 @@ impl fmt::Display for RecordRefusal {
     fn fmt<W: fmt::Write>(&self, f: &mut fmt::Formatter<W>) -> fmt::Result {
         match self {
             RecordRefusal::BadKind { at } => write!(f, "no kind of record at byte {at}"),
-            RecordRefusal::BadFlag { at } => write!(f, "an isolation, an operation or a flag that is not listed at byte {at}"),
-            RecordRefusal::BadLength { at } => write!(f, "a count or a length out of its range at byte {at}"),
+            RecordRefusal::BadFlag { at } => write!(
+                f,
+                "an isolation, an operation or a flag that is not listed at byte {at}"
+            ),
+            RecordRefusal::BadLength { at } => write!(
+                f,
+                "a count or a length out of its range at byte {at}"
+            ),
             RecordRefusal::Truncated { at } => write!(f, "the bytes end before byte {at}"),
             RecordRefusal::Spare { at } => write!(f, "a spare byte at byte {at}"),
             RecordRefusal::Memory => f.write_str("out of memory"),

@@ -31,9 +31,18 @@ impl From<TimeRefusal> for ClockRefusal {
 impl fmt::Display for ClockRefusal {
     fn fmt<W: fmt::Write>(&self, f: &mut fmt::Formatter<W>) -> fmt::Result {
         match self {
-            ClockRefusal::LeaseHeld { until } => write!(f, "the reading is not above the end of the lease, {until}"),
-            ClockRefusal::ClockRange { reading } => write!(f, "the reading {reading} is above the greatest that a clock takes"),
-            ClockRefusal::ClockFull { at } => write!(f, "the logical counter of {at} is at its end"),
+            ClockRefusal::LeaseHeld { until } => write!(
+                f,
+                "the reading is not above the end of the lease, {until}"
+            ),
+            ClockRefusal::ClockRange { reading } => write!(
+                f,
+                "the reading {reading} is above the greatest that a clock takes"
+            ),
+            ClockRefusal::ClockFull { at } => write!(
+                f,
+                "the logical counter of {at} is at its end"
+            ),
         }
     }
 }

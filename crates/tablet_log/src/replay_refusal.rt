@@ -50,7 +50,10 @@ impl fmt::Display for ReplayRefusal {
     fn fmt<W: fmt::Write>(&self, f: &mut fmt::Formatter<W>) -> fmt::Result {
         match self {
             ReplayRefusal::LogFault => f.write_str("the log failed"),
-            ReplayRefusal::LogBad { offset } => write!(f, "no frame of a record at byte {offset} of the log"),
+            ReplayRefusal::LogBad { offset } => write!(
+                f,
+                "no frame of a record at byte {offset} of the log"
+            ),
             ReplayRefusal::Memory => f.write_str("out of memory"),
         }
     }

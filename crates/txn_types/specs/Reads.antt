@@ -14,7 +14,7 @@ use Rattle.txn_data.specs.declared.command.Command.TheVariants as command
 use Rattle.txn_data.specs.declared.reply.Reply.TheVariants as reply
 use Rattle.txn_data.specs.declared.told.Told.TheVariants as told
 use Rattle.txn_data.specs.declared.event.Event.{Event}
-use Rattle.txn_data.specs.declared.event.Event.TheVariants.{Start, Hear, Tell}
+use Rattle.txn_data.specs.declared.event.Event.TheVariants.{Hear, Tell}
 use Rattle.txn_data.specs.declared.entry.Entry.{Entry}
 use Rattle.txn_data.specs.declared.config.Config.{Config}
 use Rattle.txn_types.specs.Lists.{Member, or_else, or_zero}
