@@ -7,6 +7,11 @@ use Rattle.txn_data.specs.declared.fate.Fate.TheVariants as fate
 use Rattle.txn_data.specs.declared.fate_of.FateOf.{FateOf}
 use Rattle.txn_data.specs.declared.request.Request.{Request}
 use Rattle.txn_data.specs.declared.request.Request.TheVariants as request
+use Rattle.txn_data.specs.declared.actor.Actor.{Actor}
+use Rattle.txn_data.specs.declared.refusal.Refusal.{Refusal}
+use Rattle.txn_data.specs.declared.refusal.Refusal.TheVariants as refusal
+use Rattle.txn_data.specs.declared.told_refusal.ToldRefusal.{ToldRefusal}
+use Rattle.txn_data.specs.declared.told_refusal.ToldRefusal.TheVariants as told_refusal
 use Rattle.txn_data.specs.declared.reply.Reply.{Reply}
 use Rattle.txn_data.specs.declared.reply.Reply.TheVariants as reply
 use Rattle.txn_data.specs.declared.told.Told.{Told}
@@ -16,9 +21,10 @@ use Rattle.txn_data.specs.declared.event.Event.TheVariants.{Start, Ask, Serve, H
 use Rattle.txn_data.specs.declared.entry.Entry.{Entry}
 use Rattle.txn_types.specs.Lists.{Member, or_zero}
 use Rattle.txn_types.specs.History.{History}
+use Rattle.txn_types.specs.Program.{refusal_told}
 use Rattle.txn_types.specs.Tablet.{first_fate, commit_time, greatest_fate}
 use Rattle.law_machines.proofs.Basics.{member_cases}
-use Rattle.law_time_sources.specs.Laws.{IsGrounded, FateIsGrounded, FatesAreGrounded, RequestIsGrounded, ReplyIsGrounded, ToldIsGrounded, TimeIsGrounded, EventIsGrounded}
+use Rattle.law_time_sources.specs.Laws.{IsGrounded, FateIsGrounded, FatesAreGrounded, RequestIsGrounded, RefusalIsGrounded, ReplyIsGrounded, ToldRefusalIsGrounded, ToldIsGrounded, TimeIsGrounded, EventIsGrounded}
 
 -- each entry of one history is in the other
 abbrev pub Within : History → History → Type 0
@@ -57,12 +63,30 @@ request_in h g (request.AskFate x t) on is = grounded_in h g t on is
 request_in h g (request.Commit x floor tablets) on is = grounded_in h g floor on is
 request_in h g asked on is = tt
 
+refusal_in : (h g : History) (why : Refusal) → Within h g → RefusalIsGrounded h why → RefusalIsGrounded g why
+refusal_in h g (refusal.Overlap at) on is = grounded_in h g at on is
+refusal_in h g (refusal.ClockFull at) on is = grounded_in h g at on is
+refusal_in h g why on is = tt
+
+pub told_refusal_in : (h g : History) (why : ToldRefusal) → Within h g → ToldRefusalIsGrounded h why → ToldRefusalIsGrounded g why
+told_refusal_in h g (told_refusal.Overlap at) on is = grounded_in h g at on is
+told_refusal_in h g (told_refusal.ClockFull actor at) on is = grounded_in h g at on is
+told_refusal_in h g (told_refusal.Restart at path) on is = grounded_in h g at on is
+told_refusal_in h g why on is = tt
+
+-- a refusal as it is told
+pub refusal_goes : (h : History) (a : Actor) (why : Refusal) → RefusalIsGrounded h why → ToldRefusalIsGrounded h (refusal_told a why)
+refusal_goes h a (refusal.Overlap at) is = is
+refusal_goes h a (refusal.ClockFull at) is = is
+refusal_goes h a why is = tt
+
 pub reply_in : (h g : History) (r : Reply) → Within h g → ReplyIsGrounded h r → ReplyIsGrounded g r
 reply_in h g (reply.Written at) on is = grounded_in h g at on is
 reply_in h g (reply.SingleDone at) on is = grounded_in h g at on is
 reply_in h g (reply.Met at path) on is = grounded_in h g at on is
 reply_in h g (reply.FateIs f) on is = fate_in h g f on is
 reply_in h g (reply.Committed at) on is = grounded_in h g at on is
+reply_in h g (reply.Refused why) on is = refusal_in h g why on is
 reply_in h g r on is = tt
 
 pub told_in : (h g : History) (t : Told) → Within h g → ToldIsGrounded h t → ToldIsGrounded g t
@@ -70,6 +94,7 @@ told_in h g (told.Began x at) on is = grounded_in h g at on is
 told_in h g (told.Written at) on is = grounded_in h g at on is
 told_in h g (told.Committed x at) on is = grounded_in h g at on is
 told_in h g (told.Values at restarts rows) on is = grounded_in h g at on is
+told_in h g (told.Refused why) on is = told_refusal_in h g why on is
 told_in h g t on is = tt
 
 pub time_in : (h g : History) (time : Option ℕ) → Within h g → TimeIsGrounded h time → TimeIsGrounded g time
@@ -130,7 +155,7 @@ commit_grounded h (Some fate.Pending) is = tt
 commit_grounded h (Some fate.Aborted) is = tt
 commit_grounded h (Some fate.Absent) is = tt
 
-time_or_zero : (h : History) (o : Option ℕ) → TimeIsGrounded h o → IsGrounded h (or_zero o)
+pub time_or_zero : (h : History) (o : Option ℕ) → TimeIsGrounded h o → IsGrounded h (or_zero o)
 time_or_zero h None is = zero_grounded h
 time_or_zero h (Some time) is = is
 

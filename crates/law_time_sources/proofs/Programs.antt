@@ -34,8 +34,8 @@ use Rattle.txn_types.specs.TxnProgram.{refused, write_refused, resolve_all, find
 use Rattle.txn_types.specs.PassProgram.{Counts, apply_then, clean_then, pass_over, pass_program}
 use Rattle.txn_types.specs.Session.{Keeps, Opened, next_meta, begin_program, read_told, read_at, read_inside, read_command, write_command, commit_command, abort_command, if_closed, restart_program, command_program, has_writes, writes_of, tablets_used, timed_then, moved_then}
 use Rattle.txn_types.specs.Run.{program_of}
-use Rattle.law_time_sources.specs.Laws.{IsGrounded, FatesAreGrounded, RequestIsGrounded, ReplyIsGrounded, ToldIsGrounded}
-use Rattle.law_time_sources.proofs.Grounds.{Within, within_trans, within_same, grounded_in, fates_in, zero_grounded, greater_grounded, fates_more, no_fates, request_in}
+use Rattle.law_time_sources.specs.Laws.{IsGrounded, FatesAreGrounded, RequestIsGrounded, ReplyIsGrounded, ToldRefusalIsGrounded, ToldIsGrounded}
+use Rattle.law_time_sources.proofs.Grounds.{Within, within_trans, within_same, grounded_in, fates_in, zero_grounded, greater_grounded, fates_more, no_fates, request_in, refusal_goes}
 
 -- all that it asks is grounded where it asks it, and it ends with what T says, whatever grounded replies it hears
 abbrev pub Goes : {A : Type 0} → (History → A → Type 0) → History → Program A → Type 0
@@ -57,8 +57,13 @@ then_goes T U h (Reads given) next first rest = λ g on reading is. then_goes T 
 
 -- ## reads
 
+abbrev WhatIsGrounded : History → ReadWhat → Type 0
+WhatIsGrounded h (what.Values rows) = Unit {0}
+WhatIsGrounded h (what.Restart at path) = IsGrounded h at
+WhatIsGrounded h (what.Refused why) = ToldRefusalIsGrounded h why
+
 abbrev EndIsGrounded : History → ReadEnd → Type 0
-EndIsGrounded h end = IsGrounded h end.t
+EndIsGrounded h end = IsGrounded h end.t × WhatIsGrounded h end.what
 
 abbrev GoesOn : History → Program ReadEnd → Type 0
 GoesOn h p = Goes EndIsGrounded h p
@@ -71,8 +76,8 @@ fates_goes h s (f ∷ fs) fates next at are goes = (
   at,
   λ g on. elim [
     | reply.FateIs heard ↦ λ is. fates_goes g s fs _ next (grounded_in h g s.t on at) (fates_more g fates f.txn heard (fates_in h g fates on are) is) (λ k more. goes k (within_trans h g k on more))
-    | reply.Refused why ↦ λ is. grounded_in h g s.t on at
-    | _ ↦ λ is. grounded_in h g s.t on at
+    | reply.Refused why ↦ λ is. (grounded_in h g s.t on at, refusal_goes g (Status f.status) why is)
+    | _ ↦ λ is. (grounded_in h g s.t on at, tt)
   ],
 )
 
@@ -83,8 +88,8 @@ visit_goes h a s windowed k next at goes = (
   λ g on. elim [
     | reply.Listed limit others ↦ λ is. fates_goes g _ others [] _ (grounded_in h g s.t on at) (no_fates g) (λ f more fates are.
         ((grounded_in g f s.t more (grounded_in h g s.t on at), are), λ l after answer fits. goes l _ answer (grounded_in f l s.t after (grounded_in g f s.t more (grounded_in h g s.t on at))) fits))
-    | reply.Refused why ↦ λ is. grounded_in h g s.t on at
-    | _ ↦ λ is. grounded_in h g s.t on at
+    | reply.Refused why ↦ λ is. (grounded_in h g s.t on at, refusal_goes g (Tablet k) why is)
+    | _ ↦ λ is. (grounded_in h g s.t on at, tt)
   ],
 )
 
@@ -105,26 +110,26 @@ one_next a k ks seen answer = elim answer [
 
 two_goes : (h : History) (a : Asked) (s : Progress) (ks : List ℕ) → IsGrounded h s.t → GoesOn h (round_two a s ks)
 unfolding round_two
-two_goes h a s [] at = at
+two_goes h a s [] at = (at, tt)
 two_goes h a s (k ∷ ks) at =
-    visit_goes h a s false k (two_next a k ks) at (λ g seen. elim [ reply.Collected rows ↦ λ is fits. two_goes g a (with_tablet_rows k rows seen) ks is | reply.Refused why ↦ λ is fits. is | _ ↦ λ is fits. is ])
+    visit_goes h a s false k (two_next a k ks) at (λ g seen. elim [ reply.Collected rows ↦ λ is fits. two_goes g a (with_tablet_rows k rows seen) ks is | reply.Refused why ↦ λ is fits. (is, refusal_goes g (Tablet k) why fits) | _ ↦ λ is fits. (is, tt) ])
 
 choice_goes : (b : Bool) (h : History) (p q : Program ReadEnd) → GoesOn h p → GoesOn h q → GoesOn h (if b then p else q)
 choice_goes true h p q one two = one
 choice_goes false h p q one two = two
 
-met_goes : (strict : Bool) (h : History) (end : ReadWhat) (s : Progress) (next : Program ReadEnd) → IsGrounded h s.t → GoesOn h next → GoesOn h (met_then strict end s next)
-met_goes true h end s next at goes = at
-met_goes false h end s next at goes = goes
+met_goes : (strict : Bool) (h : History) (end : ReadWhat) (s : Progress) (next : Program ReadEnd) → IsGrounded h s.t → WhatIsGrounded h end → GoesOn h next → GoesOn h (met_then strict end s next)
+met_goes true h end s next at met goes = (at, met)
+met_goes false h end s next at met goes = goes
 
 one_goes : (h : History) (a : Asked) (s : Progress) (ks : List ℕ) → IsGrounded h s.t → GoesOn h (round_one a s ks)
 unfolding round_one
-one_goes h a s [] at = choice_goes (nat_eq s.restarts 0) h (read_done a s) _ at (two_goes h a _ (tablets_of a.places) at)
+one_goes h a s [] at = choice_goes (nat_eq s.restarts 0) h (read_done a s) _ (at, tt) (two_goes h a _ (tablets_of a.places) at)
 one_goes h a s (k ∷ ks) at = visit_goes h a s true k (one_next a k ks) at (λ g seen. elim [
   | reply.Collected rows ↦ λ is fits. one_goes g a (with_tablet_rows k rows seen) ks is
-  | reply.Met t path ↦ λ is fits. met_goes a.strict g (what.Restart t path) seen _ is (one_goes g a (restarted t seen) ks fits)
-  | reply.Refused why ↦ λ is fits. is
-  | _ ↦ λ is fits. is
+  | reply.Met t path ↦ λ is fits. met_goes a.strict g (what.Restart t path) seen _ is fits (one_goes g a (restarted t seen) ks fits)
+  | reply.Refused why ↦ λ is fits. (is, refusal_goes g (Tablet k) why fits)
+  | _ ↦ λ is fits. (is, tt)
 ])
 
 -- ## transactions
@@ -132,61 +137,61 @@ one_goes h a s (k ∷ ks) at = visit_goes h a s true k (one_next a k ks) at (λ 
 abbrev pub Tells : History → Program Told → Type 0
 Tells h p = Goes ToldIsGrounded h p
 
-resolve_goes : (h : History) (meta : Meta) (fs : List Found) (fates : List FateOf) (stop : ToldRefusal → Program Told) (next : List FateOf → Program Told) → FatesAreGrounded h fates → ((g : History) (why : ToldRefusal) → Tells g (stop why)) →
+resolve_goes : (h : History) (meta : Meta) (fs : List Found) (fates : List FateOf) (stop : ToldRefusal → Program Told) (next : List FateOf → Program Told) → FatesAreGrounded h fates → ((g : History) (why : ToldRefusal) → ToldRefusalIsGrounded g why → Tells g (stop why)) →
     ((g : History) → Within h g → (found : List FateOf) → FatesAreGrounded g found → Tells g (next found)) → Tells h (resolve_all meta fs fates stop next)
 unfolding resolve_all
 resolve_goes h meta [] fates stop next are stops goes = goes h (within_same h) fates are
 resolve_goes h meta (f ∷ fs) fates stop next are stops goes = (
   tt,
   λ g on. elim [
-    | reply.FateIs fate.Pending ↦ λ is. stops g (told_refusal.Conflict f.txn)
+    | reply.FateIs fate.Pending ↦ λ is. stops g (told_refusal.Conflict f.txn) tt
     | reply.FateIs settled ↦ λ is. resolve_goes g meta fs _ stop next (fates_more g fates f.txn settled (fates_in h g fates on are) is) stops (λ k more. goes k (within_trans h g k on more))
-    | reply.Refused why ↦ λ is. stops g (refusal_told (Status f.status) why)
+    | reply.Refused why ↦ λ is. stops g (refusal_told (Status f.status) why) (refusal_goes g (Status f.status) why is)
     | _ ↦ λ is. tt
   ],
 )
 
-find_goes : (h : History) (meta : Meta) (place : Place) (stop : ToldRefusal → Program Told) (next : List FateOf → Program Told) → ((g : History) (why : ToldRefusal) → Tells g (stop why)) →
+find_goes : (h : History) (meta : Meta) (place : Place) (stop : ToldRefusal → Program Told) (next : List FateOf → Program Told) → ((g : History) (why : ToldRefusal) → ToldRefusalIsGrounded g why → Tells g (stop why)) →
     ((g : History) → Within h g → (found : List FateOf) → FatesAreGrounded g found → Tells g (next found)) → Tells h (find_others meta place stop next)
 find_goes h meta place stop next stops goes = (
   tt,
   λ g on. elim [
     | reply.Others found ↦ λ is. resolve_goes g meta found [] stop next (no_fates g) stops (λ k more. goes k (within_trans h g k on more))
-    | reply.Refused why ↦ λ is. stops g (refusal_told (Tablet place.tablet) why)
+    | reply.Refused why ↦ λ is. stops g (refusal_told (Tablet place.tablet) why) (refusal_goes g (Tablet place.tablet) why is)
     | _ ↦ λ is. tt
   ],
 )
 
-stop_goes : (g : History) (meta : Meta) (why : ToldRefusal) → Tells g (write_refused meta why)
-stop_goes g meta (told_refusal.Conflict other) = (tt, λ k on r is. tt)
-stop_goes g meta (told_refusal.Overlap at) = (tt, λ k on r is. tt)
-stop_goes g meta (told_refusal.LogFault actor) = (tt, λ k on r is. tt)
-stop_goes g meta why = tt
+stop_goes : (g : History) (meta : Meta) (why : ToldRefusal) → ToldRefusalIsGrounded g why → Tells g (write_refused meta why)
+stop_goes g meta (told_refusal.Conflict other) told_is = (tt, λ k on r is. tt)
+stop_goes g meta (told_refusal.Overlap at) told_is = (tt, λ k on r is. grounded_in g k at on told_is)
+stop_goes g meta (told_refusal.LogFault actor) told_is = (tt, λ k on r is. tt)
+stop_goes g meta why told_is = told_is
 
 begin_goes : (h : History) (meta : Meta) (r : ℕ) → IsGrounded h r → Tells h (txn_program (step.Begin meta r))
-begin_goes h meta r at = (tt, λ g on. elim [ reply.Begun ↦ λ is. grounded_in h g r on at | reply.Refused why ↦ λ is. tt | _ ↦ λ is. tt ])
+begin_goes h meta r at = (tt, λ g on. elim [ reply.Begun ↦ λ is. grounded_in h g r on at | reply.Refused why ↦ λ is. refusal_goes g (Status meta.status) why is | _ ↦ λ is. tt ])
 
 write_goes : (h : History) (meta : Meta) (number : ℕ) (place : Place) (o : Op) (read seen : ℕ) → IsGrounded h read → IsGrounded h seen → Tells h (txn_program (step.Write meta number place o read seen))
 write_goes h meta number place o read seen at low = find_goes h meta place (write_refused meta) _ (λ g. stop_goes g meta) (λ g on fates are. (
   (grounded_in h g read on at, grounded_in h g seen on low, are),
   λ k more. elim [
     | reply.Written w ↦ λ is. is
-    | reply.Refused why ↦ λ is. stop_goes k meta (refusal_told (Tablet place.tablet) why)
+    | reply.Refused why ↦ λ is. stop_goes k meta (refusal_told (Tablet place.tablet) why) (refusal_goes k (Tablet place.tablet) why is)
     | _ ↦ λ is. tt
   ],
 ))
 
 single_goes : (h : History) (meta : Meta) (place : Place) (o : Op) (seen : ℕ) → IsGrounded h seen → Tells h (txn_program (step.Single meta place o seen))
-single_goes h meta place o seen low = find_goes h meta place refused _ (λ g why. tt) (λ g on fates are. (
+single_goes h meta place o seen low = find_goes h meta place refused _ (λ g why told_is. told_is) (λ g on fates are. (
   (grounded_in h g seen on low, are),
-  λ k more. elim [ reply.SingleDone at ↦ λ is. is | reply.Refused why ↦ λ is. tt | _ ↦ λ is. tt ],
+  λ k more. elim [ reply.SingleDone at ↦ λ is. is | reply.Refused why ↦ λ is. refusal_goes k (Tablet place.tablet) why is | _ ↦ λ is. tt ],
 ))
 
 commit_goes : (h : History) (meta : Meta) (floor : ℕ) (tablets : List ℕ) → IsGrounded h floor → Tells h (txn_program (step.Commit meta floor tablets))
-commit_goes h meta floor tablets low = (low, λ g on. elim [ reply.Committed at ↦ λ is. is | reply.AbortedBy by ↦ λ is. tt | reply.Gone ↦ λ is. tt | reply.Refused why ↦ λ is. tt | _ ↦ λ is. tt ])
+commit_goes h meta floor tablets low = (low, λ g on. elim [ reply.Committed at ↦ λ is. is | reply.AbortedBy by ↦ λ is. tt | reply.Gone ↦ λ is. tt | reply.Refused why ↦ λ is. refusal_goes g (Status meta.status) why is | _ ↦ λ is. tt ])
 
 abort_goes : (h : History) (meta : Meta) → Tells h (txn_program (step.Abort meta))
-abort_goes h meta = (tt, λ g on. elim [ reply.Ended ↦ λ is. tt | reply.Committed at ↦ λ is. is | reply.Refused why ↦ λ is. tt | _ ↦ λ is. tt ])
+abort_goes h meta = (tt, λ g on. elim [ reply.Ended ↦ λ is. tt | reply.Committed at ↦ λ is. is | reply.Refused why ↦ λ is. refusal_goes g (Status meta.status) why is | _ ↦ λ is. tt ])
 
 -- ## passes
 
@@ -194,14 +199,14 @@ applied_goes : (h : History) (k : ℕ) (f : Found) (c : ℕ) (next : Program Tol
 applied_goes h k f c next at goes = (
   at,
   λ g on. elim [
-    | reply.AppliedHere ↦ λ is. (tt, λ l more. elim [ reply.Noted ↦ λ noted. goes l | reply.Refused why ↦ λ noted. tt | _ ↦ λ noted. tt ])
-    | reply.Refused why ↦ λ is. tt
+    | reply.AppliedHere ↦ λ is. (tt, λ l more. elim [ reply.Noted ↦ λ noted. goes l | reply.Refused why ↦ λ noted. refusal_goes l (Status f.status) why noted | _ ↦ λ noted. tt ])
+    | reply.Refused why ↦ λ is. refusal_goes g (Tablet k) why is
     | _ ↦ λ is. tt
   ],
 )
 
 cleaned_goes : (h : History) (k : ℕ) (f : Found) (next : Program Told) → ((g : History) → Tells g next) → Tells h (clean_then k f next)
-cleaned_goes h k f next goes = (tt, λ g on. elim [ reply.Cleaned ↦ λ is. goes g | reply.Refused why ↦ λ is. tt | _ ↦ λ is. tt ])
+cleaned_goes h k f next goes = (tt, λ g on. elim [ reply.Cleaned ↦ λ is. goes g | reply.Refused why ↦ λ is. refusal_goes g (Tablet k) why is | _ ↦ λ is. tt ])
 
 over_goes : (h : History) (k : ℕ) (n : Counts) (fs : List Found) → Tells h (pass_over k n fs)
 unfolding pass_over
@@ -213,13 +218,13 @@ over_goes h k n (f ∷ fs) = (
     | reply.FateIs (fate.Committed c) ↦ λ is. applied_goes g k f c _ is (λ l. over_goes l k (record n { applied = n.applied + 1 }) fs)
     | reply.FateIs fate.Aborted ↦ λ is. cleaned_goes g k f _ (λ l. over_goes l k (record n { cleaned = n.cleaned + 1 }) fs)
     | reply.FateIs fate.Absent ↦ λ is. cleaned_goes g k f _ (λ l. over_goes l k (record n { cleaned = n.cleaned + 1 }) fs)
-    | reply.Refused why ↦ λ is. tt
+    | reply.Refused why ↦ λ is. refusal_goes g (Status f.status) why is
     | _ ↦ λ is. tt
   ],
 )
 
 pass_goes : (h : History) (k : ℕ) → Tells h (pass_program k)
-pass_goes h k = (tt, λ g on. elim [ reply.Intents found ↦ λ is. over_goes g k _ found | reply.Refused why ↦ λ is. tt | _ ↦ λ is. tt ])
+pass_goes h k = (tt, λ g on. elim [ reply.Intents found ↦ λ is. over_goes g k _ found | reply.Refused why ↦ λ is. refusal_goes g (Tablet k) why is | _ ↦ λ is. tt ])
 
 -- ## commands
 
@@ -232,13 +237,13 @@ pub record KeptIsGrounded (h : History) (s : Keeps) : Type 0 where
   pub last_is : IsGrounded h s.last
   pub open_is : OpenIsGrounded h s.opened
 
-told_goes : (h : History) (kind : ReadKind) (ws : List Written) (places : List Place) (end : ReadEnd) → IsGrounded h end.t → ToldIsGrounded h (read_told kind ws places end)
-told_goes h kind ws places end at = what_goes end.what
+told_goes : (h : History) (kind : ReadKind) (ws : List Written) (places : List Place) (end : ReadEnd) → EndIsGrounded h end → ToldIsGrounded h (read_told kind ws places end)
+told_goes h kind ws places end is = what_goes end.what is.1
   where
-    what_goes : (w : ReadWhat) → ToldIsGrounded h (read_told kind ws places (record end { what = w }))
-    what_goes (what.Values rows) = at
-    what_goes (what.Restart t path) = tt
-    what_goes (what.Refused why) = tt
+    what_goes : (w : ReadWhat) → WhatIsGrounded h w → ToldIsGrounded h (read_told kind ws places (record end { what = w }))
+    what_goes (what.Values rows) met = is.0
+    what_goes (what.Restart t path) met = met
+    what_goes (what.Refused why) met = met
 
 read_goes : (h : History) (own_txn : Option ℕ) (kind : ReadKind) (ws : List Written) (places : List Place) (t g : ℕ) (strict : Bool) (limits : List TabletLimit) → IsGrounded h t →
     Tells h (then_do (read_program own_txn kind places t g strict limits) (λ end. Done (read_told kind ws places end)))
@@ -284,7 +289,7 @@ abort_goes_on h None = tt
 abort_goes_on h (Some x) = abort_goes h x.meta
 
 restart_goes : (h : History) (a : Actor) → Tells h (restart_program a)
-restart_goes h a = (tt, λ g on. elim [ reply.Restarted kept ↦ λ is. tt | reply.Refused why ↦ λ is. tt | _ ↦ λ is. tt ])
+restart_goes h a = (tt, λ g on. elim [ reply.Restarted kept ↦ λ is. tt | reply.Refused why ↦ λ is. refusal_goes g a why is | _ ↦ λ is. tt ])
 
 command_goes : (config : Config) (h : History) (i : ℕ) (s : Keeps) (line : Command) → KeptIsGrounded h s → Tells h (command_program config i s line)
 command_goes config h i s (command.Begin priority) is = begin_command config h i s priority s.opened is.last_is

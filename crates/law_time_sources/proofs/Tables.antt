@@ -1,8 +1,10 @@
 -- What a machine replies is grounded, where its own entries, the request and its time are.
-use Rattle.std.proofs.Common.{ℕ, ◌∷◌, max, Bool, true, false, ◌&&◌, ◌||◌, not, List, [], Option, Some, None, Result, Ok, Err, map, filter, filter_map, nat_lt, nat_le, nat_eq, refl, sym, subst, inl, inr, if◌then◌else◌}
+use Rattle.std.proofs.Common.{ℕ, ◌+◌, ◌∷◌, max, Bool, true, false, ◌&&◌, ◌||◌, not, List, [], Option, Some, None, Result, Ok, Err, map, filter, filter_map, nat_lt, nat_le, nat_eq, refl, sym, subst, inl, inr, if◌then◌else◌}
 use Rattle.std.specs.List.{cons_option}
+use Rattle.hybrid_time.specs.Time.{micros_of, logical_of, time_at, time_after, greatest_reading}
 use Rattle.hybrid_time.specs.declared.time_refusal.TimeRefusal.{TimeRefusal}
-use Rattle.doc_path.specs.Path.{Parts, path_order}
+use Rattle.hybrid_time.specs.declared.time_refusal.TimeRefusal.TheVariants.{ClockFull, ClockRange}
+use Rattle.doc_path.specs.Path.{Parts, path_order, related}
 use Rattle.txn_data.specs.declared.actor.Actor.{Actor}
 use Rattle.txn_data.specs.declared.actor.Actor.TheVariants.{Tablet}
 use Rattle.txn_data.specs.declared.append.Append.{Append}
@@ -10,7 +12,6 @@ use Rattle.txn_data.specs.declared.fate.Fate.TheVariants as fate
 use Rattle.txn_data.specs.declared.fate_of.FateOf.{FateOf}
 use Rattle.txn_data.specs.declared.met_at.MetAt.{MetAt}
 use Rattle.txn_data.specs.declared.read_kind.ReadKind.{ReadKind}
-use Rattle.txn_data.specs.declared.refusal.Refusal.{Refusal}
 use Rattle.txn_data.specs.declared.refusal.Refusal.TheVariants as refusal
 use Rattle.txn_data.specs.declared.reply.Reply.{Reply}
 use Rattle.txn_data.specs.declared.reply.Reply.TheVariants as reply
@@ -19,19 +20,19 @@ use Rattle.txn_data.specs.declared.request.Request.TheVariants as request
 use Rattle.txn_data.specs.declared.version.Version.{Version}
 use Rattle.txn_data.specs.declared.window.Window.{Window}
 use Rattle.txn_data.specs.declared.event.Event.{Event}
-use Rattle.txn_data.specs.declared.event.Event.TheVariants.{Serve}
+use Rattle.txn_data.specs.declared.event.Event.TheVariants.{Serve, Restarted}
 use Rattle.txn_data.specs.declared.entry.Entry.{Entry}
 use Rattle.txn_types.specs.Lists.{Member, or_zero, sorted_by}
 use Rattle.txn_types.specs.History.{History, counting_before, counting, standing, event_counts, next_restart_kept, was_logged}
-use Rattle.txn_types.specs.Clock.{Answer, told_only, refusal_answer, logged, timed, timed_answer, holds, clock_time, Kind, Own, Floor, lease_due, lease_end, last_time, has_given, down_since}
+use Rattle.txn_types.specs.Clock.{Answer, told_only, refusal_answer, logged, timed, timed_answer, holds, clock_time, Kind, Own, Floor, lease_due, lease_end, last_after, last_time, has_given, down_since}
 use Rattle.txn_types.specs.Status as status
 use Rattle.txn_types.specs.Status.{Record, NoRecord, record_after, record_over, record_of, fate_told, resolved, commit_answer, abort_answer, may_forget, is_sure, noted, status_up, status_standing, status_answer}
-use Rattle.txn_types.specs.Tablet.{Intent, txn_of, is_of, is_own, version_at, same_place, with_version, with_versions, versions_after, versions_over, versions, provisional_over, provisional, conflict, greatest_above, related_commits, commit_time, first_fate, greatest_fate, under_fate, considered, is_met, better_met, met_in, met_under, not_after, collected, listed, local_limit, has_any, write_answer, tablet_up, tablet_standing, tablet_answer}
+use Rattle.txn_types.specs.Tablet.{Intent, txn_of, is_of, is_own, version_at, same_place, with_version, with_versions, versions_after, versions_over, versions, provisional_over, provisional, conflict, others_on, greatest_above, related_commits, commit_time, first_fate, greatest_fate, under_fate, considered, is_met, better_met, met_in, met_under, not_after, collected, listed, local_limit, has_any, write_answer, tablet_up, tablet_standing, tablet_answer}
 use Rattle.txn_types.specs.Run.{Serves, machine_answer}
 use Rattle.law_machines.proofs.Basics.{map_member, member_cases, filter_member}
 use Rattle.law_machines.proofs.Counted.{choice_member}
 use Rattle.law_time_sources.specs.Laws.{IsGrounded, FateIsGrounded, FatesAreGrounded, RequestIsGrounded, ReplyIsGrounded, TimeIsGrounded, EventIsGrounded}
-use Rattle.law_time_sources.proofs.Grounds.{first_grounded, commit_grounded}
+use Rattle.law_time_sources.proofs.Grounds.{zero_grounded, greater_grounded, greatest_grounded, time_or_zero, first_grounded, commit_grounded}
 
 -- each of these entries is grounded in the history
 abbrev pub AllGrounded : History → History → Type 0
@@ -179,25 +180,94 @@ logged_fine h fails false time r fine = fine
 logged_fine h false true time r fine = fine
 logged_fine h true true time r fine = λ is. tt
 
-given_fine : (h : History) (lease : ℕ) (end : Option ℕ) (fails records : Bool) (time : Result ℕ TimeRefusal) (r : ℕ → Reply) → ((now : ℕ) → IsGrounded h now → ReplyIsGrounded h (r now)) → IsFine h (timed_answer lease end fails records time r)
-given_fine h lease end fails records (Err e) r fine = λ is. tt
-given_fine h lease end fails true (Ok now) r fine = logged_fine h fails true (Some now) (r now) (fine now)
-given_fine h lease end fails false (Ok now) r fine = logged_fine h fails (lease_due end now) (Some now) (r now) (fine now)
+-- the time that a clock names where it gives none
+abbrev ClockIsGrounded : History → Result ℕ TimeRefusal → Type 0
+ClockIsGrounded h (Err (ClockFull at)) = IsGrounded h at
+ClockIsGrounded h given = Unit {0}
 
-chosen_fine : (b : Bool) (h : History) (why : Refusal) (answer : Answer) → IsFine h answer → IsFine h (if b then refusal_answer why else answer)
-chosen_fine true h why answer fine = λ is. tt
-chosen_fine false h why answer fine = fine
+full_choice : (b : Bool) (h : History) (at now : ℕ) → IsGrounded h at → ClockIsGrounded h (if b then Err (ClockFull at) else Ok now)
+full_choice true h at now is = is
+full_choice false h at now is = tt
 
-timed_fine : (h : History) (lease : ℕ) (o : History) (fails : Bool) (kind : Kind) (floor reading : ℕ) (records : Bool) (r : ℕ → Reply) → ((now : ℕ) → IsGrounded h now → ReplyIsGrounded h (r now)) →
+later_choice : (b : Bool) (h : History) (now : ℕ) (given : Result ℕ TimeRefusal) → ClockIsGrounded h given → ClockIsGrounded h (if b then Ok now else given)
+later_choice true h now given is = tt
+later_choice false h now given is = is
+
+range_choice : (b : Bool) (h : History) (reading : ℕ) (given : Result ℕ TimeRefusal) → ClockIsGrounded h given → ClockIsGrounded h (if b then Err (ClockRange reading) else given)
+range_choice true h reading given is = tt
+range_choice false h reading given is = is
+
+clock_grounded : (h : History) (kind : Kind) (last floor reading : ℕ) → IsGrounded h last → IsGrounded h floor → ClockIsGrounded h (clock_time kind last floor reading)
+clock_grounded h Own last floor reading last_is floor_is =
+    let b = max last floor in
+    range_choice (nat_lt greatest_reading reading) h reading (time_after b reading)
+    (later_choice (nat_lt (micros_of b) reading) h (time_at reading 0) (if nat_eq (logical_of b) 4095 then Err (ClockFull b) else Ok (b + 1))
+    (full_choice (nat_eq (logical_of b) 4095) h b (b + 1) (greater_grounded h last floor last_is floor_is)))
+clock_grounded h Floor last floor reading last_is floor_is =
+    range_choice (nat_lt greatest_reading reading) h reading (Ok (max (max last floor) (time_at reading 0))) tt
+
+last_event : (h : History) (last : ℕ) (event : Event) → EventIsGrounded h event → IsGrounded h last → IsGrounded h (last_after last event)
+last_event h last (Serve from asked answer (Some time) append) is before = greater_grounded h last time before is.2
+last_event h last (Restarted from kept) is before = zero_grounded h
+last_event h last event is before = before
+
+last_grounded : (h l : History) → AllGrounded h l → IsGrounded h (last_time l)
+unfolding last_time
+last_grounded h [] all = zero_grounded h
+last_grounded h (e ∷ l) all = last_event h (last_time l) e.event (all e (inl refl)) (last_grounded h l (λ f m. all f (inr m)))
+
+given_fine : (h : History) (lease : ℕ) (end : Option ℕ) (fails records : Bool) (time : Result ℕ TimeRefusal) (r : ℕ → Reply) → ClockIsGrounded h time → ((now : ℕ) → IsGrounded h now → ReplyIsGrounded h (r now)) → IsFine h (timed_answer lease end fails records time r)
+given_fine h lease end fails records (Err (ClockFull at)) r clock fine = λ is. clock
+given_fine h lease end fails records (Err (ClockRange reading)) r clock fine = λ is. tt
+given_fine h lease end fails true (Ok now) r clock fine = logged_fine h fails true (Some now) (r now) (fine now)
+given_fine h lease end fails false (Ok now) r clock fine = logged_fine h fails (lease_due end now) (Some now) (r now) (fine now)
+
+held_fine : (b : Bool) (h : History) (until : ℕ) (answer : Answer) → IsFine h answer → IsFine h (if b then refusal_answer (refusal.LeaseHeld until) else answer)
+held_fine true h until answer fine = λ is. tt
+held_fine false h until answer fine = fine
+
+timed_fine : (h : History) (lease : ℕ) (o : History) (fails : Bool) (kind : Kind) (floor reading : ℕ) (records : Bool) (r : ℕ → Reply) → AllGrounded h o → IsGrounded h floor → ((now : ℕ) → IsGrounded h now → ReplyIsGrounded h (r now)) →
     IsFine h (timed lease o fails kind floor reading records r)
-timed_fine h lease o fails kind floor reading records r fine =
-    chosen_fine (holds (lease_end lease o) (has_given o) reading) h (refusal.LeaseHeld (or_zero (lease_end lease o))) (timed_answer lease (lease_end lease o) fails records (clock_time kind (last_time o) floor reading) r)
-    (given_fine h lease (lease_end lease o) fails records (clock_time kind (last_time o) floor reading) r fine)
+timed_fine h lease o fails kind floor reading records r all low fine =
+    held_fine (holds (lease_end lease o) (has_given o) reading) h (or_zero (lease_end lease o)) (timed_answer lease (lease_end lease o) fails records (clock_time kind (last_time o) floor reading) r)
+    (given_fine h lease (lease_end lease o) fails records (clock_time kind (last_time o) floor reading) r (clock_grounded h kind (last_time o) floor reading (last_grounded h o all) low) fine)
 
-write_fine : (h : History) (c v : Option ℕ) (done : Answer) → IsFine h done → IsFine h (write_answer c v done)
-write_fine h (Some other) v done fine = λ is. tt
-write_fine h None (Some at) done fine = λ is. tt
-write_fine h None None done fine = fine
+-- the commit times that a write has to be above
+abbrev TimesAreGrounded : History → List ℕ → Type 0
+TimesAreGrounded h cs = (c : ℕ) → Member c cs → IsGrounded h c
+
+above_choice : (b : Bool) (h : History) (c : ℕ) (o : Option ℕ) → IsGrounded h c → TimeIsGrounded h o → TimeIsGrounded h (if b then Some (max c (or_zero o)) else o)
+above_choice true h c o is more = greater_grounded h c (or_zero o) is (time_or_zero h o more)
+above_choice false h c o is more = more
+
+above_grounded : (h : History) (read : ℕ) (cs : List ℕ) → TimesAreGrounded h cs → TimeIsGrounded h (greatest_above read cs)
+unfolding greatest_above
+above_grounded h read [] are = tt
+above_grounded h read (c ∷ cs) are = above_choice (nat_lt read c) h c (greatest_above read cs) (are c (inl refl)) (above_grounded h read cs (λ d m. are d (inr m)))
+
+fate_times : (h : History) (fates : List FateOf) (ps : List Intent) → FatesAreGrounded h fates → TimesAreGrounded h (filter_map (λ (p : Intent). commit_time (first_fate fates (txn_of p))) ps)
+fate_times h fates [] are = λ c m. absurd m
+fate_times h fates (p ∷ ps) are =
+    laid_time h (commit_time (first_fate fates (txn_of p))) (filter_map (λ (q : Intent). commit_time (first_fate fates (txn_of q))) ps)
+    (commit_grounded h (first_fate fates (txn_of p)) (first_grounded h fates (txn_of p) are)) (fate_times h fates ps are)
+  where
+    laid_time : (g : History) (o : Option ℕ) (cs : List ℕ) → TimeIsGrounded g o → TimesAreGrounded g cs → TimesAreGrounded g (cons_option o cs)
+    laid_time g (Some c) cs is more = λ d m. elim m [ inl here ↦ subst (IsGrounded g) (sym here) is | inr deeper ↦ more d deeper ]
+    laid_time g None cs is more = more
+
+related_grounded : (h : History) (x : ℕ) (path : Parts) (fates : List FateOf) (ps : List Intent) (vs : List Version) → FatesAreGrounded h fates → VersionsAreGrounded h vs → TimesAreGrounded h (related_commits x path fates ps vs)
+related_grounded h x path fates ps vs are before = λ c m.
+    elim (member_cases c (map (λ (v : Version). v.at) (filter (λ (v : Version). related v.path path) vs)) (filter_map (λ (p : Intent). commit_time (first_fate fates (txn_of p))) (others_on x path ps)) m) [
+      | inl old ↦
+          let v = map_member (λ (u : Version). u.at) c (filter (λ (u : Version). related u.path path) vs) old in
+          subst (IsGrounded h) (sym v.2) (before v.0 (filter_member (λ (u : Version). related u.path path) v.0 vs v.1).0)
+      | inr new ↦ fate_times h fates (others_on x path ps) are c new
+    ]
+
+write_fine : (h : History) (c v : Option ℕ) (done : Answer) → TimeIsGrounded h v → IsFine h done → IsFine h (write_answer c v done)
+write_fine h (Some other) v done overlap fine = λ is. tt
+write_fine h None (Some at) done overlap fine = λ is. overlap
+write_fine h None None done overlap fine = fine
 
 apply_fine : (b : Bool) (h : History) (done : Answer) → IsFine h done → IsFine h (if b then done else told_only reply.AppliedHere)
 apply_fine true h done fine = fine
@@ -206,16 +276,18 @@ apply_fine false h done fine = λ is. tt
 up_fine : (h : History) (lease : ℕ) (o : History) (fails : Bool) (reading : ℕ) (asked : Request) → AllGrounded h o → RequestIsGrounded h asked → IsFine h (tablet_up lease o fails reading asked)
 up_fine h lease o fails reading (request.Write meta number path op read seen fates) all is =
     write_fine h (conflict meta.txn path fates (provisional o)) (greatest_above read (related_commits meta.txn path fates (provisional o) (versions o))) (timed lease o fails Own seen reading true (λ w. reply.Written w))
-    (timed_fine h lease o fails Own seen reading true (λ w. reply.Written w) (λ now at. at))
+    (above_grounded h read (related_commits meta.txn path fates (provisional o) (versions o)) (related_grounded h meta.txn path fates (provisional o) (versions o) is.2 (versions_grounded h (standing o) (all_standing h o all))))
+    (timed_fine h lease o fails Own seen reading true (λ w. reply.Written w) all is.1 (λ now at. at))
 up_fine h lease o fails reading (request.Single x path op seen fates) all is =
-    write_fine h (conflict x path fates (provisional o)) None (timed lease o fails Own (max seen (greatest_fate fates fates)) reading true (λ c. reply.SingleDone c))
-    (timed_fine h lease o fails Own (max seen (greatest_fate fates fates)) reading true (λ c. reply.SingleDone c) (λ now at. at))
-up_fine h lease o fails reading (request.ListRead own_txn paths t g limit) all is = timed_fine h lease o fails Floor t reading false (λ now. listed own_txn paths t (local_limit limit now g) (provisional o)) (λ now at. tt)
+    write_fine h (conflict x path fates (provisional o)) None (timed lease o fails Own (max seen (greatest_fate fates fates)) reading true (λ c. reply.SingleDone c)) tt
+    (timed_fine h lease o fails Own (max seen (greatest_fate fates fates)) reading true (λ c. reply.SingleDone c) all
+    (greater_grounded h seen (greatest_fate fates fates) is.0 (greatest_grounded h fates fates is.1)) (λ now at. at))
+up_fine h lease o fails reading (request.ListRead own_txn paths t g limit) all is = timed_fine h lease o fails Floor t reading false (λ now. listed own_txn paths t (local_limit limit now g) (provisional o)) all is (λ now at. tt)
 up_fine h lease o fails reading (request.Collect own_txn kind paths t window fates) all is =
     let vs = considered own_txn fates (provisional o) (versions o) in
     λ at. collected_grounded h kind paths t vs (met_under window t paths vs)
     (met_under_grounded h window t paths vs (considered_grounded h own_txn fates (provisional o) (versions o) is.1 (versions_grounded h (standing o) (all_standing h o all))))
-up_fine h lease o fails reading (request.Apply x at) all is = apply_fine (has_any x (provisional o)) h (timed lease o fails Floor at reading true (λ now. reply.AppliedHere)) (timed_fine h lease o fails Floor at reading true (λ now. reply.AppliedHere) (λ now at. tt))
+up_fine h lease o fails reading (request.Apply x at) all is = apply_fine (has_any x (provisional o)) h (timed lease o fails Floor at reading true (λ now. reply.AppliedHere)) (timed_fine h lease o fails Floor at reading true (λ now. reply.AppliedHere) all is (λ now at. tt))
 up_fine h lease o fails reading (request.Clean x) all is = logged_fine h fails (has_any x (provisional o)) None reply.Cleaned (λ at. tt)
 up_fine h lease o fails reading asked all is = λ at. tt
 
@@ -249,29 +321,29 @@ abort_fine h fails (status.Pending priority) is = logged_fine h fails true None 
 abort_fine h fails (status.AbortedBy by) is = logged_fine h fails true None reply.Ended (λ at. tt)
 abort_fine h fails NoRecord is = λ at. tt
 
-status_up_fine : (h : History) (lease : ℕ) (o : History) (fails : Bool) (reading : ℕ) (asked : Request) → AllGrounded h o → IsFine h (status_up lease o fails reading asked)
-status_up_fine h lease o fails reading (request.Begin x isolation priority) all = logged_fine h fails true None reply.Begun (λ at. tt)
-status_up_fine h lease o fails reading (request.AskFate x t) all =
-    timed_fine h lease o fails Floor t reading false (λ now. reply.FateIs (fate_told (record_of x o))) (λ now at. record_fate h (record_of x o) (record_grounded h x (standing o) (all_standing h o all)))
-status_up_fine h lease o fails reading (request.Resolve x by priority) all = resolved_fine h fails priority (record_of x o) (record_grounded h x (standing o) (all_standing h o all))
-status_up_fine h lease o fails reading (request.Commit x floor tablets) all =
+status_up_fine : (h : History) (lease : ℕ) (o : History) (fails : Bool) (reading : ℕ) (asked : Request) → AllGrounded h o → RequestIsGrounded h asked → IsFine h (status_up lease o fails reading asked)
+status_up_fine h lease o fails reading (request.Begin x isolation priority) all is = logged_fine h fails true None reply.Begun (λ at. tt)
+status_up_fine h lease o fails reading (request.AskFate x t) all is =
+    timed_fine h lease o fails Floor t reading false (λ now. reply.FateIs (fate_told (record_of x o))) all is (λ now at. record_fate h (record_of x o) (record_grounded h x (standing o) (all_standing h o all)))
+status_up_fine h lease o fails reading (request.Resolve x by priority) all is = resolved_fine h fails priority (record_of x o) (record_grounded h x (standing o) (all_standing h o all))
+status_up_fine h lease o fails reading (request.Commit x floor tablets) all is =
     commit_fine h (record_of x o) (timed lease o fails Own floor reading true (λ c. reply.Committed c)) (record_grounded h x (standing o) (all_standing h o all))
-    (timed_fine h lease o fails Own floor reading true (λ c. reply.Committed c) (λ now at. at))
-status_up_fine h lease o fails reading (request.Abort x) all = abort_fine h fails (record_of x o) (record_grounded h x (standing o) (all_standing h o all))
-status_up_fine h lease o fails reading (request.Applied x tablet) all = logged_fine h fails (may_forget (is_sure x o) (tablet ∷ noted x o) (record_of x o)) None reply.Noted (λ at. tt)
-status_up_fine h lease o fails reading asked all = λ at. tt
+    (timed_fine h lease o fails Own floor reading true (λ c. reply.Committed c) all is (λ now at. at))
+status_up_fine h lease o fails reading (request.Abort x) all is = abort_fine h fails (record_of x o) (record_grounded h x (standing o) (all_standing h o all))
+status_up_fine h lease o fails reading (request.Applied x tablet) all is = logged_fine h fails (may_forget (is_sure x o) (tablet ∷ noted x o) (record_of x o)) None reply.Noted (λ at. tt)
+status_up_fine h lease o fails reading asked all is = λ at. tt
 
 status_standing_fine : (h : History) (d : Option ℕ) (up : Answer) → IsFine h up → IsFine h (status_standing d up)
 status_standing_fine h (Some n) up fine = λ is. tt
 status_standing_fine h None up fine = fine
 
-status_fine : (h : History) (lease : ℕ) (o : History) (fails : Bool) (reading : ℕ) (asked : Request) → AllGrounded h o → IsFine h (status_answer lease o fails reading asked)
-status_fine h lease o fails reading request.Restart all = λ at. tt
-status_fine h lease o fails reading asked all = status_standing_fine h (down_since o) (status_up lease o fails reading asked) (status_up_fine h lease o fails reading asked all)
+status_fine : (h : History) (lease : ℕ) (o : History) (fails : Bool) (reading : ℕ) (asked : Request) → AllGrounded h o → RequestIsGrounded h asked → IsFine h (status_answer lease o fails reading asked)
+status_fine h lease o fails reading request.Restart all is = λ at. tt
+status_fine h lease o fails reading asked all is = status_standing_fine h (down_since o) (status_up lease o fails reading asked) (status_up_fine h lease o fails reading asked all is)
 
 machine_fine : (h : History) (lease : ℕ) (a : Actor) (o : History) (fails : Bool) (reading : ℕ) (asked : Request) → AllGrounded h o → RequestIsGrounded h asked → IsFine h (machine_answer lease a o fails reading asked)
 machine_fine h lease (Tablet k) o fails reading asked all is = tablet_fine h lease o fails reading asked all is
-machine_fine h lease a o fails reading asked all is = status_fine h lease o fails reading asked all
+machine_fine h lease a o fails reading asked all is = status_fine h lease o fails reading asked all is
 
 pub reply_grounded : (h : History) (lease : ℕ) (a : Actor) (o : History) (reading : Option ℕ) (asked : Request) (r : Reply) (time : Option ℕ) (append : Append) → Serves lease a o reading asked r time append →
     AllGrounded h o → RequestIsGrounded h asked → TimeIsGrounded h time → ReplyIsGrounded h r

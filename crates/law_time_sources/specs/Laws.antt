@@ -7,10 +7,14 @@ use Rattle.txn_data.specs.declared.fate.Fate.TheVariants as fate
 use Rattle.txn_data.specs.declared.fate_of.FateOf.{FateOf}
 use Rattle.txn_data.specs.declared.request.Request.{Request}
 use Rattle.txn_data.specs.declared.request.Request.TheVariants as request
+use Rattle.txn_data.specs.declared.refusal.Refusal.{Refusal}
+use Rattle.txn_data.specs.declared.refusal.Refusal.TheVariants as refusal
 use Rattle.txn_data.specs.declared.reply.Reply.{Reply}
 use Rattle.txn_data.specs.declared.reply.Reply.TheVariants as reply
 use Rattle.txn_data.specs.declared.told.Told.{Told}
 use Rattle.txn_data.specs.declared.told.Told.TheVariants as told
+use Rattle.txn_data.specs.declared.told_refusal.ToldRefusal.{ToldRefusal}
+use Rattle.txn_data.specs.declared.told_refusal.ToldRefusal.TheVariants as told_refusal
 use Rattle.txn_data.specs.declared.event.Event.{Event}
 use Rattle.txn_data.specs.declared.event.Event.TheVariants.{Ask, Serve, Hear, Tell}
 use Rattle.txn_data.specs.declared.entry.Entry.{Entry}
@@ -41,21 +45,36 @@ RequestIsGrounded h (request.AskFate x t) = IsGrounded h t
 RequestIsGrounded h (request.Commit x floor tablets) = IsGrounded h floor
 RequestIsGrounded h asked = Unit {0}
 
--- the times of a reply that is no refusal, but for a limit
+-- the times of a refusal
+abbrev pub RefusalIsGrounded : History → Refusal → Type 0
+RefusalIsGrounded h (refusal.Overlap at) = IsGrounded h at
+RefusalIsGrounded h (refusal.ClockFull at) = IsGrounded h at
+RefusalIsGrounded h why = Unit {0}
+
+-- the times of a reply, but for a limit
 abbrev pub ReplyIsGrounded : History → Reply → Type 0
 ReplyIsGrounded h (reply.Written at) = IsGrounded h at
 ReplyIsGrounded h (reply.SingleDone at) = IsGrounded h at
 ReplyIsGrounded h (reply.Met at path) = IsGrounded h at
 ReplyIsGrounded h (reply.FateIs told_fate) = FateIsGrounded h told_fate
 ReplyIsGrounded h (reply.Committed at) = IsGrounded h at
+ReplyIsGrounded h (reply.Refused why) = RefusalIsGrounded h why
 ReplyIsGrounded h r = Unit {0}
 
--- the times that are told, but for those of a refusal
+-- the times of a refusal that is told
+abbrev pub ToldRefusalIsGrounded : History → ToldRefusal → Type 0
+ToldRefusalIsGrounded h (told_refusal.Overlap at) = IsGrounded h at
+ToldRefusalIsGrounded h (told_refusal.ClockFull actor at) = IsGrounded h at
+ToldRefusalIsGrounded h (told_refusal.Restart at path) = IsGrounded h at
+ToldRefusalIsGrounded h why = Unit {0}
+
+-- the times that are told
 abbrev pub ToldIsGrounded : History → Told → Type 0
 ToldIsGrounded h (told.Began x at) = IsGrounded h at
 ToldIsGrounded h (told.Written at) = IsGrounded h at
 ToldIsGrounded h (told.Committed x at) = IsGrounded h at
 ToldIsGrounded h (told.Values at restarts rows) = IsGrounded h at
+ToldIsGrounded h (told.Refused why) = ToldRefusalIsGrounded h why
 ToldIsGrounded h t = Unit {0}
 
 abbrev pub TimeIsGrounded : History → Option ℕ → Type 0
