@@ -58,7 +58,9 @@ impl Sitting {
         let log = self.ended()?;
         text.word(b"=>")?;
         text.number(log.held().len() as u64)?;
-        Ok(text.word(b"bytes")?)
+        text.word(b"bytes")?;
+        put_hex(text, log.held())?;
+        Ok(())
     }
 
     fn ended(&mut self) -> Result<MemLog, Unanswered> {
@@ -70,6 +72,27 @@ impl Sitting {
             }
             Seated::Machine(machine) => Ok(machine.into_log()),
         }
+    }
+}
+
+// Puts bytes behind a blank, two digits each, where there are any.
+fn put_hex(text: &mut Line, bytes: &[u8]) -> Result<(), Memory> {
+    if !bytes.is_empty() {
+        text.mark(b" ")?;
+    }
+    'bytes: for byte in bytes {
+        text.mark(&[digit(*byte / 16), digit(*byte % 16)])?;
+    }
+    Ok(())
+}
+
+fn digit(value: u8) -> u8
+    requires { value < 16 }
+{
+    if value < 10 {
+        b'0' + value
+    } else {
+        b'a' + (value - 10)
     }
 }
 

@@ -27,3 +27,24 @@ fn every_hash_of_64_tablets(rt: HostRuntime) {
         assert!(rt; first <= hash && hash < next);
     }
 }
+
+/// Hashes about the bounds of ranges that do not part the hashes evenly, and of 8 that do.
+#[test]
+fn hashes_that_round(rt: HostRuntime) {
+    for (hash, n, tablet) in [
+        (0, 3, 0),
+        (21845, 3, 0),
+        (21846, 3, 1),
+        (43690, 3, 1),
+        (43691, 3, 2),
+        (65535, 3, 2),
+        (8191, 8, 0),
+        (8192, 8, 1),
+        (57343, 8, 6),
+        (57344, 8, 7),
+        (65535, 8, 7),
+    ] {
+        assert!(rt; 1 <= n && n <= 64);
+        assert_eq!(rt; tablet_of(hash, n), tablet, "hash {hash} over {n}");
+    }
+}

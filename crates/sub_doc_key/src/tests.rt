@@ -99,13 +99,13 @@ fn versions_by_hand(rt: HostRuntime) -> Result<(), Fail> {
     Ok(())
 }
 
-/// Each proper prefix of the key of `["a",-1;true]/#7/"b"` at 1000000.0 with write number 0. Where a prefix ends, what
+/// Each proper prefix of the key of `["a",-1;true]/#7/"b"` at 1000000.1 with write number 0. Where a prefix ends, what
 /// is missing is the byte at its length, since none of its bytes is a fault: its hash is that of its columns, and each
 /// tag may stand where it stands.
 #[test]
 fn every_proper_prefix(rt: HostRuntime) -> Result<(), Fail> {
     let bytes =
-        b"\x47\x63\xc4\x53a\x00\x00\x49\x7f\xff\xff\xff\xff\xff\xff\xff\x21\x54\x21\x4b\x00\x00\x00\x07\x53b\x00\x00\x23\xff\xff\xff\xff\x0b\xdb\xff\xff\xff\xff\xff\xff".as_slice();
+        b"\x47\x63\xc4\x53a\x00\x00\x49\x7f\xff\xff\xff\xff\xff\xff\xff\x21\x54\x21\x4b\x00\x00\x00\x07\x53b\x00\x00\x23\xff\xff\xff\xff\x0b\xdb\xff\xfe\xff\xff\xff\xff".as_slice();
     assert_eq!(rt; bytes.len(), 41);
     assert!(rt; decode(rt.alloc(), bytes).is_ok());
     // The first and the last length of prefixes that lack the same thing.
