@@ -15,8 +15,8 @@ use Rattle.txn_data.specs.declared.window.Window.{Window}
 use Rattle.txn_data.specs.declared.met_at.MetAt.{MetAt}
 use Rattle.txn_types.specs.Lists.{Member}
 use Rattle.txn_types.specs.Tablet.{not_after}
-use Rattle.regular_records.specs.Store.{Key, Moments, Store, versions_on, versions_of, moments_at}
-use Rattle.regular_records.specs.Kept.{moment_order, key_order, AreKept, IsKept}
+use Rattle.regular_records.specs.Store.{Key, PathVersions, VersionStore, versions_on, versions_of, path_versions_at}
+use Rattle.regular_records.specs.Kept.{version_key_order, key_order, AreKept, IsKept}
 use Rattle.regular_records.specs.Related.{time_in, newer, newer_at, above_upto, newest_down}
 use Rattle.regular_records.proofs.Order.{parts_cmp, take-less}
 use Rattle.regular_records.proofs.Prefix.{and-right}
@@ -28,83 +28,83 @@ use Rattle.regular_records.proofs.Best.{IsBest, extend, not_after-less}
 
 -- ---- the versions at the prefixes of a path
 
-abbrev list_at : Parts → Option Moments → List Version
+abbrev list_at : Parts → Option PathVersions → List Version
 list_at q None = []
 list_at q (Some m) = versions_on q m.entries
 
-unfoldable pub above_list : Parts → Store → ℕ → List Version
+unfoldable pub above_list : Parts → VersionStore → ℕ → List Version
 above_list p store zero = []
-above_list p store (suc n) = above_list p store n ++ list_at (take (suc n) p) (moments_at (take (suc n) p) store)
+above_list p store (suc n) = above_list p store n ++ list_at (take (suc n) p) (path_versions_at (take (suc n) p) store)
 
-list_at-path : (q : Parts) (o : Option Moments) (v : Version) → Member v (list_at q o) → v.path ≡ q
+list_at-path : (q : Parts) (o : Option PathVersions) (v : Version) → Member v (list_at q o) → v.path ≡ q
 list_at-path q None v m = absurd m
 list_at-path q (Some o) v m = path-on q o.entries v m
 
-pub above-prefix : (p : Parts) (store : Store) (n : ℕ) (v : Version) → Member v (above_list p store n) → (k : ℕ) × (k ≤ n) × (v.path ≡ take k p)
+pub above-prefix : (p : Parts) (store : VersionStore) (n : ℕ) (v : Version) → Member v (above_list p store n) → (k : ℕ) × (k ≤ n) × (v.path ≡ take k p)
 unfolding above_list
 above-prefix p store zero v m = absurd m
-above-prefix p store (suc n) v m = elim (member-append v (above_list p store n) (list_at (take (suc n) p) (moments_at (take (suc n) p) store)) m) [
+above-prefix p store (suc n) v m = elim (member-append v (above_list p store n) (list_at (take (suc n) p) (path_versions_at (take (suc n) p) store)) m) [
   | inl k ↦ let rest = above-prefix p store n v k in (rest.0, omega arith, rest.2)
-  | inr k ↦ (suc n, omega arith, list_at-path (take (suc n) p) (moments_at (take (suc n) p) store) v k)
+  | inr k ↦ (suc n, omega arith, list_at-path (take (suc n) p) (path_versions_at (take (suc n) p) store) v k)
 ]
 
-above-before : (p : Parts) (store : Store) (n : ℕ) → suc n ≤ length p → (v : Version) → Member v (above_list p store n) → not_after (path_order v.path (take (suc n) p)) ≡ true
+above-before : (p : Parts) (store : VersionStore) (n : ℕ) → suc n ≤ length p → (v : Version) → Member v (above_list p store n) → not_after (path_order v.path (take (suc n) p)) ≡ true
 above-before p store n fits v m =
     let at = above-prefix p store n v m in
     ap (λ q. not_after (path_order q (take (suc n) p))) at.2 ∙ ap not_after (take-less p at.0 (suc n) (omega arith) fits)
 
-store-ordered : (store : Store) → IsKept store → (q : Parts) (m : Moments) → moments_at q store ≡ Some m → IsOrdered moment_order m
+store-ordered : (store : VersionStore) → IsKept store → (q : Parts) (m : PathVersions) → path_versions_at q store ≡ Some m → IsOrdered version_key_order m
 store-ordered store k q m found =
     let e = lookup-found store.entries q m found in
-    subst (λ (x : Moments). IsOrdered moment_order x) e.3 (entry-kept store.entries k.1 e.0 e.1).2
+    subst (λ (x : PathVersions). IsOrdered version_key_order x) e.3 (entry-kept store.entries k.1 e.0 e.1).2
 
-step-best : (t : ℕ) (w : Option Window) (q : Parts) (done : List Version) (found : Option MetAt) (o : Option Moments)
-    → ((m : Moments) → o ≡ Some m → IsOrdered moment_order m)
+step-best : (t : ℕ) (w : Option Window) (q : Parts) (done : List Version) (found : Option MetAt) (o : Option PathVersions)
+    → ((m : PathVersions) → o ≡ Some m → IsOrdered version_key_order m)
     → IsBest (passes t w) done found → ((v : Version) → Member v done → not_after (path_order v.path q) ≡ true)
     → IsBest (passes t w) (done ++ list_at q o) (newer_at t w found q o)
 step-best t w q done found None ordered b before = subst (λ vs. IsBest (passes t w) vs found) (sym (append-nil done)) b
 step-best t w q done found (Some m) ordered b before =
     extend (passes t w) done (versions_on q m.entries) q found (time_in t w m) b (times-best t w q m.entries (ordered m refl)) (λ v k. path-on q m.entries v k) (λ v k g. before v k)
 
-pub above-best : (t : ℕ) (w : Option Window) (p : Parts) (store : Store) → IsKept store → (n : ℕ) → n ≤ length p → IsBest (passes t w) (above_list p store n) (above_upto t w p store n)
+pub above-best : (t : ℕ) (w : Option Window) (p : Parts) (store : VersionStore) → IsKept store → (n : ℕ) → n ≤ length p → IsBest (passes t w) (above_list p store n) (above_upto t w p store n)
 unfolding above_list above_upto
 above-best t w p store k zero fits = λ v m g. m
 above-best t w p store k (suc n) fits =
-    step-best t w (take (suc n) p) (above_list p store n) (above_upto t w p store n) (moments_at (take (suc n) p) store) (store-ordered store k (take (suc n) p))
+    step-best t w (take (suc n) p) (above_list p store n) (above_upto t w p store n) (path_versions_at (take (suc n) p) store) (store-ordered store k (take (suc n) p))
     (above-best t w p store k n (omega arith)) (above-before p store n fits)
 
-list_at-has : (store : Store) → IsKept store → (q : Parts) (v : Version) → Member v (versions_of store.entries) → v.path ≡ q → Member v (list_at q (moments_at q store))
+list_at-has : (store : VersionStore) → IsKept store → (q : Parts) (v : Version) → Member v (versions_of store.entries) → v.path ≡ q → Member v (list_at q (path_versions_at q store))
 list_at-has store k q v m is =
     let at = entry-of store.entries v m in
     let here : at.0.0.items ≡ q = sym (path-on at.0.0.items at.0.1.entries v at.2) ∙ is in
     let found = lookup-entry store.entries k.0 at.0 at.1 q here in
     subst (λ o. Member v (list_at q o)) (sym found) (subst (λ r. Member v (versions_on r at.0.1.entries)) here at.2)
 
-pub above-has : (p : Parts) (store : Store) → IsKept store → (n j : ℕ) → suc j ≤ n → (v : Version) → Member v (versions_of store.entries) → v.path ≡ take (suc j) p → Member v (above_list p store n)
+pub above-has : (p : Parts) (store : VersionStore) → IsKept store → (n j : ℕ) → suc j ≤ n → (v : Version) → Member v (versions_of store.entries) → v.path ≡ take (suc j) p → Member v (above_list p store n)
 unfolding above_list
 above-has p store k zero j le v m is = absurd (omega arith)
 above-has p store k (suc n) j le v m is =
-    let P : Bool → Type 0 = λ b. nat_eq j n ≡ b → Member v (above_list p store n ++ list_at (take (suc n) p) (moments_at (take (suc n) p) store)) in
+    let P : Bool → Type 0 = λ b. nat_eq j n ≡ b → Member v (above_list p store n ++ list_at (take (suc n) p) (path_versions_at (take (suc n) p) store)) in
     (elim (nat_eq j n) as P [
       | true ↦ λ e. let same : j ≡ n = eqb-true j n e in member-right v (above_list p store n) _ (list_at-has store k (take (suc n) p) v m (is ∙ ap (λ i. take (suc i) p) same))
       | false ↦ λ e. let apart = eqb-false j n e in member-left v (above_list p store n) _ (above-has p store k n j (omega arith) v m is)
     ]) refl
 
-list_at-kept : (store : Store) (q : Parts) (v : Version) → Member v (list_at q (moments_at q store)) → Member v (versions_of store.entries)
+list_at-kept : (store : VersionStore) (q : Parts) (v : Version) → Member v (list_at q (path_versions_at q store)) → Member v (versions_of store.entries)
 list_at-kept store q v m =
-    let P : Option Moments → Type 0 = λ o. moments_at q store ≡ o → Member v (list_at q o) → Member v (versions_of store.entries) in
-    (elim (moments_at q store) as P [
+    let P : Option PathVersions → Type 0 = λ o. path_versions_at q store ≡ o → Member v (list_at q o) → Member v (versions_of store.entries) in
+    (elim (path_versions_at q store) as P [
       | None ↦ λ e k. absurd k
       | Some x ↦ λ e k.
           let f = lookup-found store.entries q x e in
-          let R : Parts → Moments → Type 0 = λ r y. Member v (versions_on r y.entries) in
+          let R : Parts → PathVersions → Type 0 = λ r y. Member v (versions_on r y.entries) in
           kept-in store.entries f.0 v f.1 (subst (λ r. R r f.0.1) (sym f.2) (subst (R q) (sym f.3) k))
     ]) refl m
 
-pub above-kept : (p : Parts) (store : Store) (n : ℕ) (v : Version) → Member v (above_list p store n) → Member v (versions_of store.entries)
+pub above-kept : (p : Parts) (store : VersionStore) (n : ℕ) (v : Version) → Member v (above_list p store n) → Member v (versions_of store.entries)
 unfolding above_list
 above-kept p store zero v m = absurd m
-above-kept p store (suc n) v m = elim (member-append v (above_list p store n) (list_at (take (suc n) p) (moments_at (take (suc n) p) store)) m) [
+above-kept p store (suc n) v m = elim (member-append v (above_list p store n) (list_at (take (suc n) p) (path_versions_at (take (suc n) p) store)) m) [
   | inl k ↦ above-kept p store n v k
   | inr k ↦ list_at-kept store (take (suc n) p) v k
 ]
@@ -114,7 +114,7 @@ above-kept p store (suc n) v m = elim (member-append v (above_list p store n) (l
 abbrev pub is_below : Parts → Parts → Bool
 is_below p q = is_lt (parts_cmp p q) && is_prefix p q
 
-pub beneath_list : Parts → List (Key × Moments) → List Version
+pub beneath_list : Parts → List (Key × PathVersions) → List Version
 beneath_list p [] = []
 beneath_list p (e ∷ es) = if is_below p e.0.items then versions_on e.0.items e.1.entries ++ beneath_list p es else beneath_list p es
 
@@ -131,7 +131,7 @@ lt-le Greater h = cc
 true-not-false : true ≡ false → ⊥
 true-not-false h = cc
 
-pub none-below : (p k : Parts) (es : List (Key × Moments)) → is_lt (parts_cmp p k) ≡ true → is_prefix p k ≡ false
+pub none-below : (p k : Parts) (es : List (Key × PathVersions)) → is_lt (parts_cmp p k) ≡ true → is_prefix p k ≡ false
     → AllByRecursion (λ (y : Key). parts_cmp k y.items ≡ Less) (keys_of es) → beneath_list p es ≡ []
 unfolding beneath_list
 none-below p k [] lt apart a = refl
@@ -143,18 +143,18 @@ none-below p k (e ∷ es) lt apart a =
     ]) refl
 
 -- what was found stands before all that lies beneath
-abbrev pub Earlier : Parts → List Version → List (Key × Moments) → Type 0
-Earlier p done es = (v : Version) → Member v done → (e : Key × Moments) → Member e es → is_below p e.0.items ≡ true → not_after (path_order v.path e.0.items) ≡ true
+abbrev pub Earlier : Parts → List Version → List (Key × PathVersions) → Type 0
+Earlier p done es = (v : Version) → Member v done → (e : Key × PathVersions) → Member e es → is_below p e.0.items ≡ true → not_after (path_order v.path e.0.items) ≡ true
 
-pub down-best : (t : ℕ) (w : Option Window) (p : Parts) (es : List (Key × Moments)) → IsStrictlySortedBy key_order (keys_of es) → AreKept es
+pub down-best : (t : ℕ) (w : Option Window) (p : Parts) (es : List (Key × PathVersions)) → IsStrictlySortedBy key_order (keys_of es) → AreKept es
     → (done : List Version) (found : Option MetAt) → IsBest (passes t w) done found → Earlier p done es
-    → IsBest (passes t w) (done ++ beneath_list p es) (newest_down t w p found (filter (λ (e : Key × Moments). is_lt (parts_cmp p e.0.items) && true) es))
+    → IsBest (passes t w) (done ++ beneath_list p es) (newest_down t w p found (filter (λ (e : Key × PathVersions). is_lt (parts_cmp p e.0.items) && true) es))
 unfolding IsStrictlySortedBy beneath_list
 down-best t w p [] o k done found b early = subst (λ vs. IsBest (passes t w) vs found) (sym (append-nil done)) b
 down-best t w p (e ∷ es) o k done found b early =
     let q = e.0.items in
     let own = versions_on q e.1.entries in
-    let rest = filter (λ (e : Key × Moments). is_lt (parts_cmp p e.0.items) && true) es in
+    let rest = filter (λ (e : Key × PathVersions). is_lt (parts_cmp p e.0.items) && true) es in
     let later : Earlier p done es = λ v m d n. early v m d (inr n) in
     let P : Bool → Type 0 = λ x. is_lt (parts_cmp p q) ≡ x
     → IsBest (passes t w) (done ++ (if (x && is_prefix p q) then own ++ beneath_list p es else beneath_list p es)) (newest_down t w p found (if (x && true) then e ∷ rest else rest)) in
@@ -177,20 +177,20 @@ down-best t w p (e ∷ es) o k done found b early =
       | false ↦ λ lt. down-best t w p es o.1 k.1 done found b later
     ]) refl
 
-pub below-has : (p : Parts) (es : List (Key × Moments)) (e : Key × Moments) (v : Version) → Member e es → Member v (versions_on e.0.items e.1.entries) → is_below p e.0.items ≡ true → Member v (beneath_list p es)
+pub below-has : (p : Parts) (es : List (Key × PathVersions)) (e : Key × PathVersions) (v : Version) → Member e es → Member v (versions_on e.0.items e.1.entries) → is_below p e.0.items ≡ true → Member v (beneath_list p es)
 unfolding beneath_list
 below-has p [] e v m n h = absurd m
 below-has p (d ∷ es) e v m n h = elim m [
   | inl is ↦
-      let here : is_below p d.0.items ≡ true = ap (λ (x : Key × Moments). is_below p x.0.items) (sym is) ∙ h in
+      let here : is_below p d.0.items ≡ true = ap (λ (x : Key × PathVersions). is_below p x.0.items) (sym is) ∙ h in
       let P : Bool → Type 0 = λ b. Member v (if b then versions_on d.0.items d.1.entries ++ beneath_list p es else beneath_list p es) in
-      subst P (sym here) (member-left v (versions_on d.0.items d.1.entries) (beneath_list p es) (subst (λ (x : Key × Moments). Member v (versions_on x.0.items x.1.entries)) is n))
+      subst P (sym here) (member-left v (versions_on d.0.items d.1.entries) (beneath_list p es) (subst (λ (x : Key × PathVersions). Member v (versions_on x.0.items x.1.entries)) is n))
   | inr k ↦
       let there = below-has p es e v k n h in
       elim (is_below p d.0.items) as (λ b. Member v (if b then versions_on d.0.items d.1.entries ++ beneath_list p es else beneath_list p es)) [ true ↦ member-right v (versions_on d.0.items d.1.entries) (beneath_list p es) there | false ↦ there ]
 ]
 
-pub below-kept : (p : Parts) (es : List (Key × Moments)) (v : Version) → Member v (beneath_list p es) → Member v (versions_of es) × (is_prefix p v.path ≡ true)
+pub below-kept : (p : Parts) (es : List (Key × PathVersions)) (v : Version) → Member v (beneath_list p es) → Member v (versions_of es) × (is_prefix p v.path ≡ true)
 unfolding beneath_list
 below-kept p [] v m = absurd m
 below-kept p (d ∷ es) v m =

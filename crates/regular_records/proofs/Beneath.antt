@@ -10,15 +10,22 @@ use Rattle.std.proofs.lemmas.Cmp.{nat_list_cmp_total}
 use Rattle.std.proofs.lemmas.Map.Lookups.{exact_bytes}
 use Rattle.std.proofs.lemmas.Slice.Eq.{bytes_eq-Decides}
 use Rattle.std.specs.Str.{bytes_eq}
+use Rattle.txn_types.specs.Lists.{Member}
 use Rattle.doc_path.specs.Path.{Parts, is_prefix}
-use Rattle.regular_records.specs.Store.{Key, Moments}
+use Rattle.regular_records.specs.Store.{Key, PathVersions}
 use Rattle.regular_records.specs.Kept.{AreKept}
 use Rattle.regular_records.proofs.Order.{parts_cmp}
 use Rattle.regular_records.proofs.Prefix.{and-left, and-right}
 
-pub kept-filter : (f : Key × Moments → Bool) (es : List (Key × Moments)) → AreKept es → AreKept (filter f es)
+pub kept-filter : (f : Key × PathVersions → Bool) (es : List (Key × PathVersions)) → AreKept es → AreKept (filter f es)
 kept-filter f [] k = tt
 kept-filter f (e ∷ es) k = elim (f e) as (λ b. AreKept (if b then e ∷ filter f es else filter f es)) [ true ↦ (k.0, kept-filter f es k.1) | false ↦ kept-filter f es k.1 ]
+
+pub filter-member : (f : Key × PathVersions → Bool) (es : List (Key × PathVersions)) (e : Key × PathVersions) → Member e (filter f es) → Member e es
+filter-member f [] e m = m
+filter-member f (d ∷ es) e m =
+    let P : Bool → Type 0 = λ b. Member e (if b then d ∷ filter f es else filter f es) → Member e (d ∷ es) in
+    (elim (f d) as P [ true ↦ λ k. elim k [ inl is ↦ inl is | inr n ↦ inr (filter-member f es e n) ] | false ↦ λ k. inr (filter-member f es e k) ]) m
 
 -- ---- a path is not after what lies beneath it, and what stands between lies beneath it too
 

@@ -1,8 +1,8 @@
 -- Which of two sets has the newest version of a path, and the rows of both.
 use Rattle.std.proofs.Common.{◌≡◌, ℕ, ◌<◌, Bool, true, false, ◌&&◌, ◌||◌, List, [], ◌∷◌, ◌++◌, Option, Some, None, if◌then◌else◌, length, take, nat_le, nat_lt, nat_eq, refl, sym, ap, ◌∙◌, arith, subst, append_assoc}
-use Rattle.std.specs.Prelude.{IfSome, not, option_map}
+use Rattle.std.specs.Prelude.{IfSome, not, option_map, flat_map}
 use Rattle.std.specs.List.{AllByRecursion}
-use Rattle.std.specs.BTreeSet.{insert_key}
+use Rattle.std.specs.BTreeMap.{insert_entry}
 use Rattle.std.specs.Cmp.{Some-then}
 use Rattle.std.specs.Option.{option_partial_cmp}
 use Rattle.std.specs.Ordering.{nat_cmp, on, then_cmp, is_lt, ordering_then, ordering_reverse, match_ordering, partial_ordering_then, is_some_and, partial_lt}
@@ -13,14 +13,15 @@ use Rattle.std.proofs.lemmas.Cmp.{ranked}
 use Rattle.doc_path.specs.Path.{Parts, is_prefix, path_order}
 use Rattle.txn_data.specs.declared.version.Version.{Version}
 use Rattle.txn_data.specs.declared.row.Row.{Row}
-use Rattle.txn_types.specs.Writes.{value, row_with, with_path, beneath}
+use Rattle.txn_data.specs.declared.written.Written.{Written}
+use Rattle.txn_types.specs.Writes.{value, row_with, with_path, paths_beneath, beneath}
 use Rattle.txn_types.specs.Tablet.{version_before, not_after, writes_at}
 use Rattle.regular_records.specs.Records.{later, deciding, newest, decided_by, decided}
 use Rattle.regular_records.specs.declared.decided.Decided.{Decided}
 use Rattle.regular_records.specs.Store.{Key}
 use Rattle.regular_records.specs.Kept.{key_order}
-use Rattle.regular_records.specs.Merged.{paths_of, HasParts, with_rows, rows_at}
-use Rattle.regular_records.proofs.Order.{parts_cmp, parts_total, path_order-cmp, take-less}
+use Rattle.regular_records.specs.Merged.{Place, paths_in, HasParts, HaveValues, IsKnown, AreKnown, with_rows, rows_at}
+use Rattle.regular_records.proofs.Order.{parts_cmp, parts_exact, parts_total, path_order-cmp, take-less}
 use Rattle.regular_records.proofs.Prefix.{and-right, prefix-take, prefix-length}
 use Rattle.regular_records.proofs.Best.{not_after-itself}
 use Rattle.regular_records.proofs.Rows.{placed, with_path-cons, with_path-nil}
@@ -83,51 +84,70 @@ prefixes-by_length p q r h k =
 
 -- ---- the paths of both
 
-paths-insert : (k : Key) (ks : List Key) → paths_of (insert_key key_order ks k) ≡ with_path k.items (paths_of ks)
-paths-insert k [] = sym (with_path-nil k.items)
-paths-insert k (x ∷ ks) =
-    elim (parts_cmp k.items x.items) as (λ o. paths_of (match_ordering o (k ∷ x ∷ ks) (x ∷ ks) (x ∷ insert_key key_order ks k)) ≡ placed o k.items x.items (paths_of ks)) [
+pub paths-insert : (k : Key) (v : Option (List ℕ)) (es : List Place) → paths_in (insert_entry key_order es k v) ≡ with_path k.items (paths_in es)
+paths-insert k v [] = sym (with_path-nil k.items)
+paths-insert k v (e ∷ es) =
+    elim (parts_cmp k.items e.0.items) as (λ o. paths_in (match_ordering o ((k, v) ∷ e ∷ es) ((e.0, v) ∷ es) (e ∷ insert_entry key_order es k v)) ≡ placed o k.items e.0.items (paths_in es)) [
       | Less ↦ refl
       | Equal ↦ refl
-      | Greater ↦ ap (λ ps. x.items ∷ ps) (paths-insert k ks)
+      | Greater ↦ ap (λ ps. e.0.items ∷ ps) (paths-insert k v es)
     ]
-    ∙ sym (with_path-cons k.items x.items (paths_of ks))
+    ∙ sym (with_path-cons k.items e.0.items (paths_in es))
 
 -- one row more
-pub paths-turn : (k : Key) (ks new : List Key) (r : Row) (rows rest : List Row) (all : List Parts) → new ≡ insert_key key_order ks k → k.items ≡ r.path → rows ≡ r ∷ rest
-    → with_rows (paths_of ks) rows ≡ all → with_rows (paths_of new) rest ≡ all
-paths-turn k ks new r rows rest all n e is inv =
-    ap (λ l. with_rows (paths_of l) rest) n
-    ∙ ap (λ ps. with_rows ps rest) (paths-insert k ks ∙ ap (λ q. with_path q (paths_of ks)) e)
-    ∙ ap (with_rows (paths_of ks)) (sym is)
-    ∙ inv
+pub paths-turn : (before after : List Parts) (q : Parts) (r : Row) (rows rest : List Row) (all : List Parts) → after ≡ with_path q before → q ≡ r.path → rows ≡ r ∷ rest
+    → with_rows before rows ≡ all → with_rows after rest ≡ all
+paths-turn before after q r rows rest all n e is inv =
+    ap (λ ps. with_rows ps rest) (n ∙ ap (λ p. with_path p before) e) ∙ ap (with_rows before) (sym is) ∙ inv
 
-pub parts-turn : (k : Key) (ks new : List Key) (q : Parts) → new ≡ insert_key key_order ks k → k.items ≡ q → HasParts q → AllByRecursion HasParts (paths_of ks) → AllByRecursion HasParts (paths_of new)
-parts-turn k ks new q n e h a =
-    subst (AllByRecursion HasParts) (sym (ap paths_of n ∙ paths-insert k ks)) (all-with HasParts k.items (paths_of ks) (subst HasParts (sym e) h) a)
+pub parts-insert : (k : Key) (v : Option (List ℕ)) (es : List Place) → HasParts k.items → AllByRecursion HasParts (paths_in es) → AllByRecursion HasParts (paths_in (insert_entry key_order es k v))
+parts-insert k v es h a = subst (AllByRecursion HasParts) (sym (paths-insert k v es)) (all-with HasParts k.items (paths_in es) h a)
 
--- one path more
-pub rows-turn : (t : ℕ) (vs : List Version) (done new all : List Row) (k : Key) (keys rest : List Key) (q : Parts) (found : Option (List ℕ)) → keys ≡ k ∷ rest → q ≡ k.items
-    → found ≡ value (writes_at t vs) q → new ≡ done ++ row_with k.items found → done ++ rows_at t vs (paths_of keys) ≡ all → new ++ rows_at t vs (paths_of rest) ≡ all
-rows-turn t vs done new all k keys rest q found is path f n inv =
-    ap (λ l. l ++ rows_at t vs (paths_of rest)) (n ∙ ap (λ o. done ++ row_with k.items o) (f ∙ ap (value (writes_at t vs)) path))
-    ∙ append_assoc done (row_with k.items (value (writes_at t vs) k.items)) (rows_at t vs (paths_of rest))
-    ∙ ap (λ ks. done ++ rows_at t vs (paths_of ks)) (sym is)
+pub known-insert : (ws : List Written) (k : Key) (v : Option (List ℕ)) (es : List Place) → IsKnown ws k.items v → AreKnown ws es → AreKnown ws (insert_entry key_order es k v)
+known-insert ws k v [] h a = (h, tt)
+known-insert ws k v (e ∷ es) h a =
+    let P : Ordering → Type 0 = λ o. parts_cmp k.items e.0.items ≡ o → AreKnown ws (match_ordering o ((k, v) ∷ e ∷ es) ((e.0, v) ∷ es) (e ∷ insert_entry key_order es k v)) in
+    (elim (parts_cmp k.items e.0.items) as P [
+      | Less ↦ λ o. (h, a)
+      | Equal ↦ λ o. (subst (λ q. IsKnown ws q v) (parts_exact k.items e.0.items o) h, a.1)
+      | Greater ↦ λ o. (a.0, known-insert ws k v es h a.1)
+    ]) refl
+
+-- the rows beneath a path have the values there
+row-has : (ws : List Written) (q : Parts) (o : Option (List ℕ)) (rest : List Row) → value ws q ≡ o → HaveValues ws rest → HaveValues ws (row_with q o ++ rest)
+row-has ws q None rest is h = h
+row-has ws q (Some v) rest is h = (sym is, h)
+
+rows-have : (ws : List Written) (qs : List Parts) → HaveValues ws (flat_map (λ q. row_with q (value ws q)) qs)
+rows-have ws [] = tt
+rows-have ws (q ∷ qs) = row-has ws q (value ws q) (flat_map (λ q. row_with q (value ws q)) qs) refl (rows-have ws qs)
+
+pub beneath-have : (ws : List Written) (p : Parts) (rows : List Row) → rows ≡ beneath ws p → HaveValues ws rows
+unfolding beneath
+beneath-have ws p rows is = subst (HaveValues ws) (sym is) (rows-have ws (paths_beneath p ws))
+
+-- one place more
+pub rows-turn : (t : ℕ) (vs : List Version) (done new all : List Row) (e : Place) (places rest : List Place) (found : Option (List ℕ)) → places ≡ e ∷ rest
+    → found ≡ value (writes_at t vs) e.0.items → new ≡ done ++ row_with e.0.items found → done ++ rows_at t vs (paths_in places) ≡ all → new ++ rows_at t vs (paths_in rest) ≡ all
+rows-turn t vs done new all e places rest found is f n inv =
+    ap (λ l. l ++ rows_at t vs (paths_in rest)) (n ∙ ap (λ o. done ++ row_with e.0.items o) f)
+    ∙ append_assoc done (row_with e.0.items (value (writes_at t vs) e.0.items)) (rows_at t vs (paths_in rest))
+    ∙ ap (λ es. done ++ rows_at t vs (paths_in es)) (sym is)
     ∙ inv
 
 -- ---- the paths of the rows of both
 
-pub both-paths : (first second third : List Key) (rows others : List Row) → first ≡ [] → paths_of second ≡ with_rows (paths_of first) rows → paths_of third ≡ with_rows (paths_of second) others
-    → paths_of third ≡ with_rows (with_rows [] rows) others
-both-paths first second third rows others none p q = q ∙ ap (λ ps. with_rows ps others) (p ∙ ap (λ ks. with_rows (paths_of ks) rows) none)
+pub both-paths : (first second third : List Place) (rows others : List Row) → first ≡ [] → paths_in second ≡ with_rows (paths_in first) rows → paths_in third ≡ with_rows (paths_in second) others
+    → paths_in third ≡ with_rows (with_rows [] rows) others
+both-paths first second third rows others none p q = q ∙ ap (λ ps. with_rows ps others) (p ∙ ap (λ es. with_rows (paths_in es) rows) none)
 
-pub both-fit : (fits : Parts → Type 0) (keys : List Key) (rows others : List Row) → paths_of keys ≡ with_rows (with_rows [] rows) others
-    → AllByRecursion (λ (r : Row). fits r.path) rows → AllByRecursion (λ (r : Row). fits r.path) others → AllByRecursion fits (paths_of keys)
-both-fit fits keys rows others is a b = subst (AllByRecursion fits) (sym is) (all-rows fits (with_rows [] rows) others (all-rows fits [] rows tt a) b)
+pub both-fit : (fits : Parts → Type 0) (places : List Place) (rows others : List Row) → paths_in places ≡ with_rows (with_rows [] rows) others
+    → AllByRecursion (λ (r : Row). fits r.path) rows → AllByRecursion (λ (r : Row). fits r.path) others → AllByRecursion fits (paths_in places)
+both-fit fits places rows others is a b = subst (AllByRecursion fits) (sym is) (all-rows fits (with_rows [] rows) others (all-rows fits [] rows tt a) b)
 
-pub both-rows : (t : ℕ) (p : Parts) (us vs : List Version) (keys : List Key) (rows others : List Row) → paths_of keys ≡ with_rows (with_rows [] rows) others
-    → rows ≡ beneath (writes_at t us) p → others ≡ beneath (writes_at t vs) p → rows_at t (us ++ vs) (paths_of keys) ≡ beneath (writes_at t (us ++ vs)) p
-both-rows t p us vs keys rows others is e f =
+pub both-rows : (t : ℕ) (p : Parts) (us vs : List Version) (places : List Place) (rows others : List Row) → paths_in places ≡ with_rows (with_rows [] rows) others
+    → rows ≡ beneath (writes_at t us) p → others ≡ beneath (writes_at t vs) p → rows_at t (us ++ vs) (paths_in places) ≡ beneath (writes_at t (us ++ vs)) p
+both-rows t p us vs places rows others is e f =
     ap (rows_at t (us ++ vs)) (is ∙ ap (λ r. with_rows (with_rows [] r) others) e ∙ ap (λ o. with_rows (with_rows [] (beneath (writes_at t us) p)) o) f)
     ∙ rows-both t p us vs
 

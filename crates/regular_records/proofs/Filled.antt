@@ -13,27 +13,27 @@ use Rattle.doc_path.specs.Path.{Parts}
 use Rattle.txn_data.specs.declared.version.Version.{Version}
 use Rattle.txn_types.specs.Lists.{Member}
 use Rattle.txn_types.specs.Tablet.{same_place}
-use Rattle.regular_records.specs.declared.moment.Moment.{Moment}
-use Rattle.regular_records.specs.declared.moment.Held.{Held}
-use Rattle.regular_records.specs.Store.{Key, Moments, Slot, version_of, shown, versions_on, versions_of}
-use Rattle.regular_records.specs.Kept.{moment_order, key_order}
-use Rattle.regular_records.specs.Adding.{at_path, at_moment, Replaces}
+use Rattle.regular_records.specs.declared.version_key.VersionKey.{VersionKey}
+use Rattle.regular_records.specs.declared.version_value.VersionValue.{VersionValue}
+use Rattle.regular_records.specs.Store.{Key, PathVersions, Slot, version_of, shown, versions_on, versions_of}
+use Rattle.regular_records.specs.Kept.{version_key_order, key_order}
+use Rattle.regular_records.specs.Adding.{at_path, at_version_key, Replaces}
 use Rattle.regular_records.proofs.Order.{parts_cmp, parts_total, parts_exact}
 use Rattle.regular_records.proofs.Kept.{member-append, member-left, member-right, member-cons_option, member-cons, member-here, slot-of, shown-path, key-member, all-member, entry-of, path-on}
 use Rattle.regular_records.proofs.Placed.{apart-from, apart-places}
 use Rattle.regular_records.proofs.Made.{key_at, slot_at}
 
--- ---- moments
+-- ---- versions
 
-moment-is : (m n : Moment) → slot_at m n ≡ true → (n.at ≡ m.at) × (n.number ≡ m.number)
-moment-is m n h = (grind (arith, nat_tests), grind (arith, nat_tests))
+version_key-is : (m n : VersionKey) → slot_at m n ≡ true → (n.at ≡ m.at) × (n.number ≡ m.number)
+version_key-is m n h = (grind (arith, nat_tests), grind (arith, nat_tests))
 
-moment-from : (m n : Moment) → n.at ≡ m.at → n.number ≡ m.number → slot_at m n ≡ true
-moment-from m n a b = grind (arith, nat_tests)
+version_key-from : (m n : VersionKey) → n.at ≡ m.at → n.number ≡ m.number → slot_at m n ≡ true
+version_key-from m n a b = grind (arith, nat_tests)
 
-moment-less : (m n : Moment) → moment_order m n ≡ Less → n.at ≡ m.at → n.number ≡ m.number → ⊥
-moment-less m n h a b =
-    let equal = moment-from m n a b in
+version_key-less : (m n : VersionKey) → version_key_order m n ≡ Less → n.at ≡ m.at → n.number ≡ m.number → ⊥
+version_key-less m n h a b =
+    let equal = version_key-from m n a b in
     let bad : false ≡ true = sym (ap is_eq h) ∙ equal in
     cc
 
@@ -42,12 +42,12 @@ moment-less m n h a b =
 abbrev ReplacesOn : Version → List Version → List Version → Version → Type 0
 ReplacesOn v old new u = Member u new ↔ ((u ≡ v) ⊎ (Member u old × (same_place u v ≡ false)))
 
-filled-here : (p : Parts) (m : Moment) (h : Held) (s : Slot) (slots : List Slot) → m.number < 4294967296 → slot_at m s.0 ≡ true
-    → AllByRecursion (λ y. moment_order s.0 y ≡ Less) (keys_of slots)
+filled-here : (p : Parts) (m : VersionKey) (h : VersionValue) (s : Slot) (slots : List Slot) → m.number < 4294967296 → slot_at m s.0 ≡ true
+    → AllByRecursion (λ y. version_key_order s.0 y ≡ Less) (keys_of slots)
     → Replaces (version_of p m h) (versions_on p (s ∷ slots)) (versions_on p ((s.0, Some h) ∷ slots))
 filled-here p m h s slots small at after u =
     let v = version_of p m h in
-    let is = moment-is m s.0 at in
+    let is = version_key-is m s.0 at in
     let fits : nat_lt s.0.number 4294967296 ≡ true = (let n = is.1 in grind (arith, nat_tests)) in
     let shows : shown p (s.0, Some h) ≡ Some v =
     ap (λ b. if b then Some (version_of p s.0 h) else None) fits
@@ -62,7 +62,7 @@ filled-here p m h s slots small at after u =
             inr (
               member-cons u (shown p s) (versions_on p slots) n,
               apart-from u v (λ one.
-                  moment-less s.0 other.0.0 (all-member (λ y. moment_order s.0 y ≡ Less) (keys_of slots) other.0.0 after other.1)
+                  version_key-less s.0 other.0.0 (all-member (λ y. version_key_order s.0 y ≡ Less) (keys_of slots) other.0.0 after other.1)
                   (sym there.1 ∙ one.1 ∙ sym is.0) (sym there.2 ∙ one.2 ∙ sym is.1)),
             )
       ],
@@ -75,7 +75,7 @@ filled-here p m h s slots small at after u =
       ]),
     )
 
-filled-later : (p : Parts) (m : Moment) (h : Held) (s : Slot) (old new : List Version) → slot_at m s.0 ≡ false
+filled-later : (p : Parts) (m : VersionKey) (h : VersionValue) (s : Slot) (old new : List Version) → slot_at m s.0 ≡ false
     → Replaces (version_of p m h) old new → Replaces (version_of p m h) (cons_option (shown p s) old) (cons_option (shown p s) new)
 filled-later p m h s old new apart r u =
     let v = version_of p m h in (
@@ -85,7 +85,7 @@ filled-later p m h s old new apart r u =
             inr (
               member-here u (shown p s) old e,
               apart-from u v (λ one.
-                  let same = moment-from m s.0 (sym place.1 ∙ one.1) (sym place.2 ∙ one.2) in
+                  let same = version_key-from m s.0 (sym place.1 ∙ one.1) (sym place.2 ∙ one.2) in
                   let bad : true ≡ false = sym same ∙ apart in cc),
             )
         | inr n ↦ elim ((r u).0 n) [ inl e ↦ inl e | inr o ↦ inr (member-cons u (shown p s) old o.0, o.1) ]
@@ -99,12 +99,12 @@ filled-later p m h s old new apart r u =
       ],
     )
 
-pub filled-slots : (p : Parts) (m : Moment) (h : Held) (slots : List Slot) → m.number < 4294967296 → IsStrictlySortedBy moment_order (keys_of slots) → IsSome (at_moment m slots)
+pub filled-slots : (p : Parts) (m : VersionKey) (h : VersionValue) (slots : List Slot) → m.number < 4294967296 → IsStrictlySortedBy version_key_order (keys_of slots) → IsSome (at_version_key m slots)
     → Replaces (version_of p m h) (versions_on p slots) (versions_on p (set_value (slot_at m) slots (Some h)))
 unfolding IsStrictlySortedBy
 filled-slots p m h [] small o some = cc
 filled-slots p m h (s ∷ slots) small o some =
-    let P : Bool → Type 0 = λ b. slot_at m s.0 ≡ b → IsSome (cond b (Some s.1) (at_moment m slots))
+    let P : Bool → Type 0 = λ b. slot_at m s.0 ≡ b → IsSome (cond b (Some s.1) (at_version_key m slots))
     → Replaces (version_of p m h) (versions_on p (s ∷ slots)) (versions_on p (cond b ((s.0, Some h) ∷ slots) (s ∷ set_value (slot_at m) slots (Some h)))) in
     (elim (slot_at m s.0) as P [
       | true ↦ λ b k. filled-here p m h s slots small b o.0
@@ -118,7 +118,7 @@ equal-is Less h = cc
 equal-is Equal h = refl
 equal-is Greater h = cc
 
-entry-here : (v : Version) (e : Key × Moments) (new : Moments) (es : List (Key × Moments)) → e.0.items ≡ v.path
+entry-here : (v : Version) (e : Key × PathVersions) (new : PathVersions) (es : List (Key × PathVersions)) → e.0.items ≡ v.path
     → AllByRecursion (λ y. key_order e.0 y ≡ Less) (keys_of es)
     → Replaces v (versions_on e.0.items e.1.entries) (versions_on e.0.items new.entries)
     → Replaces v (versions_of (e ∷ es)) (versions_of ((e.0, new) ∷ es))
@@ -145,7 +145,7 @@ entry-here v e new es is after r u =
       ],
     )
 
-entry-later : (v : Version) (e : Key × Moments) (old new : List Version) → (e.0.items ≡ v.path → ⊥) → Replaces v old new
+entry-later : (v : Version) (e : Key × PathVersions) (old new : List Version) → (e.0.items ≡ v.path → ⊥) → Replaces v old new
     → Replaces v (versions_on e.0.items e.1.entries ++ old) (versions_on e.0.items e.1.entries ++ new)
 entry-later v e old new apart r u =
     let own = versions_on e.0.items e.1.entries in (
@@ -159,7 +159,7 @@ entry-later v e old new apart r u =
       ],
     )
 
-pub filled-entries : (v : Version) (old new : Moments) (es : List (Key × Moments)) → IsStrictlySortedBy key_order (keys_of es) → at_path v.path es ≡ Some old
+pub filled-entries : (v : Version) (old new : PathVersions) (es : List (Key × PathVersions)) → IsStrictlySortedBy key_order (keys_of es) → at_path v.path es ≡ Some old
     → Replaces v (versions_on v.path old.entries) (versions_on v.path new.entries)
     → Replaces v (versions_of es) (versions_of (set_value (key_at v.path) es new))
 unfolding IsStrictlySortedBy
@@ -171,7 +171,7 @@ filled-entries v old new (e ∷ es) o found r =
       | true ↦ λ b f.
           let path : v.path ≡ e.0.items = parts_exact v.path e.0.items (equal-is (parts_cmp v.path e.0.items) b) in
           let is : old ≡ e.1 = cc in
-          let Q : Parts → Moments → Type 0 = λ q m. Replaces v (versions_on q m.entries) (versions_on q new.entries) in
+          let Q : Parts → PathVersions → Type 0 = λ q m. Replaces v (versions_on q m.entries) (versions_on q new.entries) in
           entry-here v e new es (sym path) o.0 (subst (λ q. Q q e.1) path (subst (Q v.path) is r))
       | false ↦ λ b f.
           entry-later v e (versions_of es) (versions_of (set_value (key_at v.path) es new))
@@ -180,12 +180,12 @@ filled-entries v old new (e ∷ es) o found r =
     ]) refl found
 
 -- a slot that is filled stays, and so do the others
-pub slot-set : (m n : Moment) (slots : List Slot) (x : Option Held) → IsSome (at_moment n slots) → IsSome (at_moment n (set_value (slot_at m) slots x))
+pub slot-set : (m n : VersionKey) (slots : List Slot) (x : Option VersionValue) → IsSome (at_version_key n slots) → IsSome (at_version_key n (set_value (slot_at m) slots x))
 slot-set m n [] x h = h
 slot-set m n (s ∷ slots) x h =
-    elim (slot_at m s.0) as (λ b. IsSome (at_moment n (cond b ((s.0, x) ∷ slots) (s ∷ set_value (slot_at m) slots x)))) [
-      | true ↦ (let P : Bool → Type 0 = λ b. IsSome (cond b (Some s.1) (at_moment n slots)) → IsSome (cond b (Some x) (at_moment n slots)) in
+    elim (slot_at m s.0) as (λ b. IsSome (at_version_key n (cond b ((s.0, x) ∷ slots) (s ∷ set_value (slot_at m) slots x)))) [
+      | true ↦ (let P : Bool → Type 0 = λ b. IsSome (cond b (Some s.1) (at_version_key n slots)) → IsSome (cond b (Some x) (at_version_key n slots)) in
           (elim (slot_at n s.0) as P [ true ↦ λ k. refl | false ↦ λ k. k ]) h)
-      | false ↦ (let P : Bool → Type 0 = λ b. IsSome (cond b (Some s.1) (at_moment n slots)) → IsSome (cond b (Some s.1) (at_moment n (set_value (slot_at m) slots x))) in
+      | false ↦ (let P : Bool → Type 0 = λ b. IsSome (cond b (Some s.1) (at_version_key n slots)) → IsSome (cond b (Some s.1) (at_version_key n (set_value (slot_at m) slots x))) in
           (elim (slot_at n s.0) as P [ true ↦ λ k. refl | false ↦ λ k. slot-set m n slots x k ]) h)
     ]

@@ -10,7 +10,7 @@ use Rattle.txn_data.specs.declared.met_at.MetAt.{MetAt}
 use Rattle.txn_types.specs.Lists.{Member}
 use Rattle.txn_types.specs.Tablet.{not_after}
 use Rattle.regular_records.specs.Holding.{Holds}
-use Rattle.regular_records.specs.Store.{Store, versions_of}
+use Rattle.regular_records.specs.Store.{VersionStore, versions_of}
 use Rattle.regular_records.specs.Kept.{IsKept}
 use Rattle.regular_records.specs.Related.{above_upto, found_at}
 use Rattle.regular_records.proofs.Order.{parts_cmp, parts_exact, path_order-cmp}
@@ -48,7 +48,7 @@ le-apart Less h no_tie = refl
 le-apart Equal h no_tie = absurd (no_tie refl)
 le-apart Greater h no_tie = h
 
-above-early : (p : Parts) (store : Store) (n : ℕ) → Earlier p (above_list p store n) store.entries
+above-early : (p : Parts) (store : VersionStore) (n : ℕ) → Earlier p (above_list p store n) store.entries
 above-early p store n v m e k below =
     let at = above-prefix p store n v m in
     let front : is_prefix v.path p ≡ true = ap (λ q. is_prefix q p) at.2 ∙ is_prefix-take p at.0 in
@@ -56,7 +56,7 @@ above-early p store n v m e k below =
     (ap not_after (path_order-cmp v.path p) ∙ le-not_after (parts_cmp v.path p) (prefix-first v.path p front))
     (not_after-less p e.0.items (lt-less (parts_cmp p e.0.items) (and-left (is_lt (parts_cmp p e.0.items)) (is_prefix p e.0.items) below)))
 
-found-in : (t : ℕ) (w : Option Window) (p : Parts) (store : Store) → IsKept store → (v : Version) → Member v (versions_of store.entries) → passes_on t w p v ≡ true
+found-in : (t : ℕ) (w : Option Window) (p : Parts) (store : VersionStore) → IsKept store → (v : Version) → Member v (versions_of store.entries) → passes_on t w p v ≡ true
     → Member v (above_list p store (length p) ++ beneath_list p store.entries) × (passes t w v ≡ true)
 found-in t w p store k v m g =
     let pass = and-left (passes t w v) (related v.path p) g in
@@ -83,7 +83,7 @@ found-in t w p store k v m g =
           )
     ]) refl (and-right (passes t w v) (related v.path p) g)
 
-found-from : (t : ℕ) (w : Option Window) (p : Parts) (store : Store) (v : Version) → Member v (above_list p store (length p) ++ beneath_list p store.entries) → passes t w v ≡ true
+found-from : (t : ℕ) (w : Option Window) (p : Parts) (store : VersionStore) (v : Version) → Member v (above_list p store (length p) ++ beneath_list p store.entries) → passes t w v ≡ true
     → Member v (versions_of store.entries) × (passes_on t w p v ≡ true)
 found-from t w p store v m g = elim (member-append v (above_list p store (length p)) (beneath_list p store.entries) m) [
   | inl a ↦
@@ -95,7 +95,7 @@ found-from t w p store v m g = elim (member-append v (above_list p store (length
       (at.0, both (passes t w v) (related v.path p) g (or-right (is_prefix v.path p) (is_prefix p v.path) at.1))
 ]
 
-pub related-kept : (t : ℕ) (w : Option Window) (p : Parts) (store : Store) → IsKept store → IsBest (passes_on t w p) (versions_of store.entries) (found_at t w p store)
+pub related-kept : (t : ℕ) (w : Option Window) (p : Parts) (store : VersionStore) → IsKept store → IsBest (passes_on t w p) (versions_of store.entries) (found_at t w p store)
 related-kept t w p store k =
     transfer (passes t w) (passes_on t w p) (above_list p store (length p) ++ beneath_list p store.entries) (versions_of store.entries) (found-from t w p store) (found-in t w p store k) (found_at t w p store)
     (down-best t w p store.entries k.0 k.1 (above_list p store (length p)) (above_upto t w p store (length p)) (above-best t w p store k (length p) (omega arith)) (above-early p store (length p)))

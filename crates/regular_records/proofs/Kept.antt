@@ -13,10 +13,10 @@ use Rattle.doc_path.specs.Path.{Parts, path_order}
 use Rattle.txn_data.specs.declared.version.Version.{Version}
 use Rattle.txn_types.specs.Lists.{Member, or_else}
 use Rattle.txn_types.specs.Tablet.{version_before, not_after}
-use Rattle.regular_records.specs.declared.moment.Moment.{Moment}
+use Rattle.regular_records.specs.declared.version_key.VersionKey.{VersionKey}
 use Rattle.regular_records.specs.Records.{later}
-use Rattle.regular_records.specs.Store.{Key, Moments, Slot, version_of, shown, versions_on, versions_of, first_until}
-use Rattle.regular_records.specs.Kept.{moment_order, key_order}
+use Rattle.regular_records.specs.Store.{Key, PathVersions, Slot, version_of, shown, versions_on, versions_of, first_until}
+use Rattle.regular_records.specs.Kept.{version_key_order, key_order}
 use Rattle.regular_records.proofs.Order.{parts_cmp, parts_total, parts_exact, before-trans, before-total, before-itself}
 use Rattle.regular_records.proofs.Newest.{later-none-back}
 use Rattle.regular_records.proofs.Among.{IsNewestAmong, front}
@@ -38,17 +38,17 @@ member-right v [] vs m = m
 member-right v (u ∷ us) vs m = inr (member-right v us vs m)
 
 -- a version is kept in an entry
-pub entry-of : (es : List (Key × Moments)) (v : Version) → Member v (versions_of es) → (e : Key × Moments) × Member e es × Member v (versions_on e.0.items e.1.entries)
+pub entry-of : (es : List (Key × PathVersions)) (v : Version) → Member v (versions_of es) → (e : Key × PathVersions) × Member e es × Member v (versions_on e.0.items e.1.entries)
 entry-of [] v m = absurd m
 entry-of (e ∷ es) v m = elim (member-append v (versions_on e.0.items e.1.entries) (versions_of es) m) [
   | inl n ↦ (e, inl refl, n)
   | inr n ↦ let rest = entry-of es v n in (rest.0, inr rest.1, rest.2)
 ]
 
-pub kept-in : (es : List (Key × Moments)) (e : Key × Moments) (v : Version) → Member e es → Member v (versions_on e.0.items e.1.entries) → Member v (versions_of es)
+pub kept-in : (es : List (Key × PathVersions)) (e : Key × PathVersions) (v : Version) → Member e es → Member v (versions_on e.0.items e.1.entries) → Member v (versions_of es)
 kept-in [] e v m n = absurd m
 kept-in (d ∷ es) e v m n = elim m [
-  | inl is ↦ let P : Key × Moments → Type 0 = λ x. Member v (versions_on x.0.items x.1.entries) in member-left v (versions_on d.0.items d.1.entries) (versions_of es) (subst P is n)
+  | inl is ↦ let P : Key × PathVersions → Type 0 = λ x. Member v (versions_on x.0.items x.1.entries) in member-left v (versions_on d.0.items d.1.entries) (versions_of es) (subst P is n)
   | inr m ↦ member-right v (versions_on d.0.items d.1.entries) (versions_of es) (kept-in es e v m n)
 ]
 
@@ -83,9 +83,9 @@ path-on p (s ∷ slots) v m = elim (member-cons_option v (shown p s) (versions_o
 older : (a b c d : ℕ) (last : Bool) → ordering_then (nat_cmp c a) (nat_cmp d b) ≡ Less → (nat_lt c a || (nat_eq c a && (nat_lt d b || (nat_eq d b && last)))) ≡ true
 older a b c d last h = grind (arith, nat_tests)
 
-pub key-member : (es : List (Key × Moments)) (e : Key × Moments) → Member e es → Member e.0 (keys_of es)
+pub key-member : (es : List (Key × PathVersions)) (e : Key × PathVersions) → Member e es → Member e.0 (keys_of es)
 key-member [] e m = absurd m
-key-member (d ∷ es) e m = elim m [ inl is ↦ inl (ap (λ (x : Key × Moments). x.0) is) | inr m ↦ inr (key-member es e m) ]
+key-member (d ∷ es) e m = elim m [ inl is ↦ inl (ap (λ (x : Key × PathVersions). x.0) is) | inr m ↦ inr (key-member es e m) ]
 
 pub all-member : {K : Type 0} (P : K → Type 0) (ks : List K) (k : K) → AllByRecursion P ks → Member k ks → P k
 all-member P [] k a m = absurd m
@@ -98,12 +98,12 @@ slot-of p (s ∷ slots) v m = elim (member-cons_option v (shown p s) (versions_o
   | inr n ↦ let rest = slot-of p slots v n in (rest.0, inr rest.1, rest.2)
 ]
 
-older-before : (m n : Moment) (u v : Version) → moment_order m n ≡ Less → u.at ≡ m.at → u.number ≡ m.number → v.at ≡ n.at → v.number ≡ n.number
+older-before : (m n : VersionKey) (u v : Version) → version_key_order m n ≡ Less → u.at ≡ m.at → u.number ≡ m.number → v.at ≡ n.at → v.number ≡ n.number
     → version_before v u ≡ true
 older-before m n u v h a b c d = rw (a, b, c, d) (older m.at m.number n.at n.number (not_after (path_order v.path u.path)) h)
 
 slots-among : (t : ℕ) (p : Parts) (s : Slot) (slots : List Slot) (x : Option Version) (b : Bool) (r : Option Version)
-    → shown p s ≡ x → nat_le s.0.at t ≡ b → AllByRecursion (λ y. moment_order s.0 y ≡ Less) (keys_of slots)
+    → shown p s ≡ x → nat_le s.0.at t ≡ b → AllByRecursion (λ y. version_key_order s.0 y ≡ Less) (keys_of slots)
     → IsNewestAmong (λ v. nat_le v.at t) (versions_on p slots) r
     → IsNewestAmong (λ v. nat_le v.at t) (cons_option x (versions_on p slots)) (or_else (if b then x else None) r)
 slots-among t p s slots None true r is le a rest = rest
@@ -120,11 +120,11 @@ slots-among t p s slots (Some u) true r is le a rest =
         | inl e ↦ rw e (before-itself u)
         | inr m ↦ let other = slot-of p slots v m in
             let there = shown-path p other.0 v other.2 in
-            older-before s.0 other.0.0 u v (all-member (λ y. moment_order s.0 y ≡ Less) (keys_of slots) other.0.0 a other.1) place.1 place.2 there.1 there.2
+            older-before s.0 other.0.0 u v (all-member (λ y. version_key_order s.0 y ≡ Less) (keys_of slots) other.0.0 a other.1) place.1 place.2 there.1 there.2
       ],
     )
 
-pub first-among : (t : ℕ) (p : Parts) (slots : List Slot) → IsStrictlySortedBy moment_order (keys_of slots)
+pub first-among : (t : ℕ) (p : Parts) (slots : List Slot) → IsStrictlySortedBy version_key_order (keys_of slots)
     → IsNewestAmong (λ v. nat_le v.at t) (versions_on p slots) (first_until t p slots)
 unfolding IsStrictlySortedBy
 first-among t p [] o = λ v m g. m
@@ -136,14 +136,14 @@ first-among t p (s ∷ slots) o =
 greater-apart : (o r : Ordering) → o ≡ Less → r ≡ ordering_reverse o → is_eq r ≡ false
 greater-apart o r less turned = ap is_eq (turned ∙ ap ordering_reverse less)
 
-pub lookup-entry : (es : List (Key × Moments)) → IsStrictlySortedBy key_order (keys_of es) → (e : Key × Moments) → Member e es → (q : Parts) → e.0.items ≡ q
+pub lookup-entry : (es : List (Key × PathVersions)) → IsStrictlySortedBy key_order (keys_of es) → (e : Key × PathVersions) → Member e es → (q : Parts) → e.0.items ≡ q
     → lookup (is_at (λ (k : Key). parts_cmp q k.items)) es ≡ Some e.1
 unfolding IsStrictlySortedBy
 lookup-entry [] o e m q is = absurd m
 lookup-entry (d ∷ es) o e m q is = elim m [
   | inl same ↦
-      let here : is_eq (parts_cmp q d.0.items) ≡ true = ap (λ (x : Key × Moments). is_eq (parts_cmp q x.0.items)) (sym same) ∙ ap (λ r. is_eq (parts_cmp q r)) is ∙ ap is_eq (tied_itself parts_total q) in
-      ap (λ b. cond b (Some d.1) (lookup (is_at (λ (k : Key). parts_cmp q k.items)) es)) here ∙ ap (λ (x : Key × Moments). Some x.1) (sym same)
+      let here : is_eq (parts_cmp q d.0.items) ≡ true = ap (λ (x : Key × PathVersions). is_eq (parts_cmp q x.0.items)) (sym same) ∙ ap (λ r. is_eq (parts_cmp q r)) is ∙ ap is_eq (tied_itself parts_total q) in
+      ap (λ b. cond b (Some d.1) (lookup (is_at (λ (k : Key). parts_cmp q k.items)) es)) here ∙ ap (λ (x : Key × PathVersions). Some x.1) (sym same)
   | inr n ↦
       let less : parts_cmp d.0.items q ≡ Less = ap (parts_cmp d.0.items) (sym is) ∙ all-member (λ k. key_order d.0 k ≡ Less) (keys_of es) e.0 o.0 (key-member es e n) in
       let there : is_eq (parts_cmp q d.0.items) ≡ false = greater-apart (parts_cmp d.0.items q) (parts_cmp q d.0.items) less (parts_total.antisymm q d.0.items) in
@@ -155,11 +155,11 @@ equal-is Less h = cc
 equal-is Equal h = refl
 equal-is Greater h = cc
 
-pub lookup-found : (es : List (Key × Moments)) (q : Parts) (m : Moments) → lookup (is_at (λ (k : Key). parts_cmp q k.items)) es ≡ Some m
-    → (e : Key × Moments) × Member e es × (e.0.items ≡ q) × (e.1 ≡ m)
+pub lookup-found : (es : List (Key × PathVersions)) (q : Parts) (m : PathVersions) → lookup (is_at (λ (k : Key). parts_cmp q k.items)) es ≡ Some m
+    → (e : Key × PathVersions) × Member e es × (e.0.items ≡ q) × (e.1 ≡ m)
 lookup-found [] q m is = cc
 lookup-found (d ∷ es) q m is =
-    let P : Bool → Type 0 = λ b. is_eq (parts_cmp q d.0.items) ≡ b → cond b (Some d.1) (lookup (is_at (λ (k : Key). parts_cmp q k.items)) es) ≡ Some m → (e : Key × Moments) × Member e (d ∷ es) × (e.0.items ≡ q) × (e.1 ≡ m) in
+    let P : Bool → Type 0 = λ b. is_eq (parts_cmp q d.0.items) ≡ b → cond b (Some d.1) (lookup (is_at (λ (k : Key). parts_cmp q k.items)) es) ≡ Some m → (e : Key × PathVersions) × Member e (d ∷ es) × (e.0.items ≡ q) × (e.1 ≡ m) in
     (elim (is_eq (parts_cmp q d.0.items)) as P [
       | true ↦ λ h k. (d, inl refl, sym (parts_exact q d.0.items (equal-is (parts_cmp q d.0.items) h)), cc)
       | false ↦ λ h k. let rest = lookup-found es q m k in (rest.0, inr rest.1, rest.2, rest.3)

@@ -21,3 +21,7 @@ pub mod Several
 pub mod Added
 pub mod Joined
 pub mod Both
+pub mod Places
+pub mod Summed
+pub mod Stopped
+pub mod Words

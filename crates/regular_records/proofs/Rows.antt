@@ -13,7 +13,7 @@ use Rattle.txn_data.specs.declared.row.Row.{Row}
 use Rattle.txn_data.specs.declared.written.Written.{Written}
 use Rattle.txn_types.specs.Lists.{Member}
 use Rattle.txn_types.specs.Writes.{with_path, paths_beneath}
-use Rattle.regular_records.specs.Store.{Key, Moments}
+use Rattle.regular_records.specs.Store.{Key, PathVersions}
 use Rattle.regular_records.specs.Kept.{key_order}
 use Rattle.regular_records.proofs.Order.{parts_cmp, parts_total, parts_exact, path_order-cmp}
 
@@ -50,14 +50,14 @@ greater-less p q h = turn-greater (parts_cmp p q) (parts_cmp q p) h (parts_total
 
 -- ---- lists that rise
 
-abbrev pub items_of : List (Key × Moments) → List Parts
-items_of es = map (λ (e : Key × Moments). e.0.items) es
+abbrev pub items_of : List (Key × PathVersions) → List Parts
+items_of es = map (λ (e : Key × PathVersions). e.0.items) es
 
-after-items : (k : Key) (es : List (Key × Moments)) → AllByRecursion (λ y. key_order k y ≡ Less) (keys_of es) → AllAfter k.items (items_of es)
+after-items : (k : Key) (es : List (Key × PathVersions)) → AllByRecursion (λ y. key_order k y ≡ Less) (keys_of es) → AllAfter k.items (items_of es)
 after-items k [] a = tt
 after-items k (e ∷ es) a = (a.0, after-items k es a.1)
 
-pub rising-items : (es : List (Key × Moments)) → IsStrictlySortedBy key_order (keys_of es) → Rising (items_of es)
+pub rising-items : (es : List (Key × PathVersions)) → IsStrictlySortedBy key_order (keys_of es) → Rising (items_of es)
 unfolding IsStrictlySortedBy
 rising-items [] o = tt
 rising-items (e ∷ es) o = (after-items e.0 es o.0, rising-items es o.1)

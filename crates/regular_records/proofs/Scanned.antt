@@ -18,7 +18,7 @@ use Rattle.txn_types.specs.Writes.{set_at, value, value_set, last_word, row_with
 use Rattle.txn_types.specs.Tablet.{writes_at}
 use Rattle.regular_records.specs.Records.{write_of}
 use Rattle.regular_records.specs.Holding.{Holds}
-use Rattle.regular_records.specs.Store.{Key, Moments, Store, versions_of, newest_upto}
+use Rattle.regular_records.specs.Store.{Key, PathVersions, VersionStore, versions_of, newest_upto}
 use Rattle.regular_records.specs.Kept.{key_order, IsKept}
 use Rattle.regular_records.specs.Scan.{value_upto, rows_down, entries_from}
 use Rattle.regular_records.proofs.Order.{parts_cmp}
@@ -35,7 +35,7 @@ true-not-false h = cc
 
 -- ---- what lies beneath stands at the front
 
-none-after : (p k : Parts) (es : List (Key × Moments)) → is_le (parts_cmp p k) ≡ true → is_prefix p k ≡ false
+none-after : (p k : Parts) (es : List (Key × PathVersions)) → is_le (parts_cmp p k) ≡ true → is_prefix p k ≡ false
     → AllByRecursion (λ (y : Key). parts_cmp k y.items ≡ Less) (keys_of es) → filter (is_prefix p) (items_of es) ≡ []
 none-after p k [] le apart a = refl
 none-after p k (e ∷ es) le apart a =
@@ -45,18 +45,18 @@ none-after p k (e ∷ es) le apart a =
       | false ↦ λ h. none-after p k es le apart a.1
     ]) refl
 
-abbrev rows_of : ℕ → Store → Parts → List Row
+abbrev rows_of : ℕ → VersionStore → Parts → List Row
 rows_of t store q = row_with q (value_upto t store q)
 
-rows-filter : (t : ℕ) (key : Key) (store : Store) (es : List (Key × Moments)) → IsStrictlySortedBy key_order (keys_of es)
-    → rows_down t key.items store (filter (λ (e : Key × Moments). range_contains key_order (Included key) Unbounded e.0) es)
+rows-filter : (t : ℕ) (key : Key) (store : VersionStore) (es : List (Key × PathVersions)) → IsStrictlySortedBy key_order (keys_of es)
+    → rows_down t key.items store (filter (λ (e : Key × PathVersions). range_contains key_order (Included key) Unbounded e.0) es)
     ≡ flat_map (rows_of t store) (filter (is_prefix key.items) (items_of es))
 unfolding IsStrictlySortedBy
 rows-filter t key store [] o = refl
 rows-filter t key store (e ∷ es) o =
     let p = key.items in
     let k = e.0.items in
-    let rest = filter (λ (e : Key × Moments). range_contains key_order (Included key) Unbounded e.0) es in
+    let rest = filter (λ (e : Key × PathVersions). range_contains key_order (Included key) Unbounded e.0) es in
     let under = filter (is_prefix p) (items_of es) in
     let P : Bool → Type 0 = λ b. is_le (parts_cmp p k) ≡ b
     → rows_down t p store (if (b && true) then e ∷ rest else rest) ≡ flat_map (rows_of t store) (if is_prefix p k then k ∷ under else under) in
@@ -129,12 +129,12 @@ filter-passes f q (r ∷ qs) m =
       | false ↦ λ h k. filter-passes f q qs k
     ]) refl m
 
-member-items : (es : List (Key × Moments)) (e : Key × Moments) → Member e es → Member e.0.items (items_of es)
+member-items : (es : List (Key × PathVersions)) (e : Key × PathVersions) → Member e es → Member e.0.items (items_of es)
 member-items [] e m = absurd m
-member-items (d ∷ es) e m = elim m [ inl is ↦ inl (ap (λ (x : Key × Moments). x.0.items) is) | inr n ↦ inr (member-items es e n) ]
+member-items (d ∷ es) e m = elim m [ inl is ↦ inl (ap (λ (x : Key × PathVersions). x.0.items) is) | inr n ↦ inr (member-items es e n) ]
 
 -- a path with a value in the map has an entry
-valued-entry : (t : ℕ) (store : Store) → IsKept store → (q : Parts) (v : List ℕ) → value_upto t store q ≡ Some v → Member q (items_of store.entries)
+valued-entry : (t : ℕ) (store : VersionStore) → IsKept store → (q : Parts) (v : List ℕ) → value_upto t store q ≡ Some v → Member q (items_of store.entries)
 valued-entry t store k q v h =
     let w = set-there q (option_map write_of (newest_upto t q store (length q))) v h in
     let x = mapped (newest_upto t q store (length q)) w.0 w.1 in
@@ -165,7 +165,7 @@ flat_map-same f g [] h = refl
 flat_map-same f g (q ∷ qs) h = ap (λ r. r ++ flat_map f qs) (h q) ∙ ap (λ r. g q ++ r) (flat_map-same f g qs h)
 
 -- the rows of a scan
-pub rows-kept : (t : ℕ) (key : Key) (store : Store) (vs : List Version) (p : Parts) → IsKept store → Holds (versions_of store.entries) vs → key.items ≡ p
+pub rows-kept : (t : ℕ) (key : Key) (store : VersionStore) (vs : List Version) (p : Parts) → IsKept store → Holds (versions_of store.entries) vs → key.items ≡ p
     → rows_down t key.items store (entries_from key store) ≡ beneath (writes_at t vs) p
 unfolding beneath
 rows-kept t key store vs p k h is =

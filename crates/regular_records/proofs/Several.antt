@@ -11,7 +11,7 @@ use Rattle.txn_data.specs.declared.met_at.MetAt.{MetAt}
 use Rattle.txn_types.specs.Lists.{Member}
 use Rattle.txn_types.specs.Tablet.{not_after, is_met, met_in}
 use Rattle.regular_records.specs.Holding.{Holds}
-use Rattle.regular_records.specs.Store.{Store, versions_of}
+use Rattle.regular_records.specs.Store.{VersionStore, versions_of}
 use Rattle.regular_records.specs.Kept.{IsKept}
 use Rattle.regular_records.specs.Related.{found_at, best_from}
 use Rattle.regular_records.proofs.Prefix.{and-right}
@@ -107,7 +107,7 @@ any-step : (a b c : Bool) → ((a && b) || (a && c)) ≡ (a && (b || c))
 any-step true b c = refl
 any-step false b c = refl
 
-pub best-kept : (t : ℕ) (w : Option Window) (store : Store) → IsKept store → (done ps : List Parts) (found : Option MetAt)
+pub best-kept : (t : ℕ) (w : Option Window) (store : VersionStore) → IsKept store → (done ps : List Parts) (found : Option MetAt)
     → IsBest (passes_any t w done) (versions_of store.entries) found → IsBest (passes_any t w (done ++ ps)) (versions_of store.entries) (best_from t w store found ps)
 best-kept t w store k done [] found b = subst (λ qs. IsBest (passes_any t w qs) (versions_of store.entries) found) (sym (append-nil done)) b
 best-kept t w store k done (p ∷ ps) found b =
@@ -120,7 +120,7 @@ best-kept t w store k done (p ∷ ps) found b =
 none-best : (t : ℕ) (w : Option Window) (vs : List Version) → IsBest (passes_any t w []) vs None
 none-best t w vs = λ v m h. let bad = and-right (passes t w v) false h in cc
 
-pub all-kept : (t : ℕ) (w : Option Window) (store : Store) (ps : List Parts) → IsKept store → IsBest (passes_any t w ps) (versions_of store.entries) (best_from t w store None ps)
+pub all-kept : (t : ℕ) (w : Option Window) (store : VersionStore) (ps : List Parts) → IsKept store → IsBest (passes_any t w ps) (versions_of store.entries) (best_from t w store None ps)
 all-kept t w store ps k = best-kept t w store k [] ps None (none-best t w (versions_of store.entries))
 
 met-test : (a b c d : Bool) → ((a && (b && c)) && d) ≡ (((a && b) && c) && d)
@@ -128,7 +128,7 @@ met-test true true c d = refl
 met-test true false c d = refl
 met-test false b c d = refl
 
-pub met-kept : (t : ℕ) (w : Window) (store : Store) (ps : List Parts) (vs : List Version) → IsKept store → Holds (versions_of store.entries) vs
+pub met-kept : (t : ℕ) (w : Window) (store : VersionStore) (ps : List Parts) (vs : List Version) → IsKept store → Holds (versions_of store.entries) vs
     → best_from t (Some w) store None ps ≡ met_in w t ps vs
 met-kept t w store ps vs k h =
     best-unique (is_met w t ps) vs (best_from t (Some w) store None ps) (met_in w t ps vs)
@@ -138,7 +138,7 @@ met-kept t w store ps vs k h =
     (met_in-best w t ps vs)
 
 -- what is met is a path that is kept
-pub met-path : (t : ℕ) (w : Option Window) (store : Store) (ps : List Parts) (m : MetAt) → IsKept store → best_from t w store None ps ≡ Some m → (1 ≤ length m.path) × (length m.path ≤ 5)
+pub met-path : (t : ℕ) (w : Option Window) (store : VersionStore) (ps : List Parts) (m : MetAt) → IsKept store → best_from t w store None ps ≡ Some m → (1 ≤ length m.path) × (length m.path ≤ 5)
 met-path t w store ps m k is =
     let b = subst (IsBest (passes_any t w ps) (versions_of store.entries)) is (all-kept t w store ps k) in
     let at = entry-of store.entries b.0.0 b.0.1 in

@@ -11,27 +11,27 @@ use Rattle.doc_path.specs.Path.{Parts, path_order}
 use Rattle.txn_types.specs.Tablet.{not_after}
 use Rattle.txn_data.specs.declared.version.Version.{Version}
 use Rattle.txn_types.specs.Lists.{or_else}
-use Rattle.regular_records.specs.declared.moment.Moment.{Moment}
-use Rattle.regular_records.specs.declared.moment.Held.{Held}
+use Rattle.regular_records.specs.declared.version_key.VersionKey.{VersionKey}
+use Rattle.regular_records.specs.declared.version_value.VersionValue.{VersionValue}
 use Rattle.regular_records.specs.declared.word.Word.{Word}
 use Rattle.regular_records.specs.Records.{later}
 use Rattle.regular_records.proofs.Order.{take-less}
 use Rattle.regular_records.specs.Store.{word_version, Slot, shown, version_of, first_until}
 
 -- the order of the slots
-abbrev pub moment_cmp : Moment → Moment → Ordering
-moment_cmp = flip_args (then_cmp (on (λ (m : Moment). m.at) nat_cmp) (on (λ (m : Moment). m.number) nat_cmp))
+abbrev pub version_key_cmp : VersionKey → VersionKey → Ordering
+version_key_cmp = flip_args (then_cmp (on (λ (m : VersionKey). m.at) nat_cmp) (on (λ (m : VersionKey). m.number) nat_cmp))
 
 -- the first version of slots
 abbrev pub first_shown : Parts → List Slot → Option Version
 first_shown p [] = None
 first_shown p (s ∷ slots) = or_else (shown p s) (first_shown p slots)
 
-abbrev pub greatest_at : ℕ → Moment
+abbrev pub greatest_at : ℕ → VersionKey
 greatest_at t = record { at = t; number = 4294967295 }
 
 -- a slot with a version lies in the range from t on exactly where it is not later than t
-range-until : (t : ℕ) (m : Moment) → nat_lt m.number 4294967296 ≡ true → is_le (moment_cmp (greatest_at t) m) ≡ nat_le m.at t
+range-until : (t : ℕ) (m : VersionKey) → nat_lt m.number 4294967296 ≡ true → is_le (version_key_cmp (greatest_at t) m) ≡ nat_le m.at t
 range-until t m small = grind (arith, nat_tests)
 
 abbrev kept_if : Bool → Option Version → Option Version
@@ -60,7 +60,7 @@ first_shown-if p s true slots = refl
 first_shown-if p s false slots = refl
 
 abbrev pub in_range : ℕ → Slot → Bool
-in_range t s = range_contains moment_cmp (Included (greatest_at t)) Unbounded s.0
+in_range t s = range_contains version_key_cmp (Included (greatest_at t)) Unbounded s.0
 
 and-true : (b : Bool) → (b && true) ≡ b
 and-true true = refl
@@ -69,12 +69,12 @@ and-true false = refl
 pub first_shown-range : (t : ℕ) (p : Parts) (slots : List Slot) → first_until t p slots ≡ first_shown p (filter (in_range t) slots)
 first_shown-range t p [] = refl
 first_shown-range t p (s ∷ slots) =
-    ap (λ x. or_else x (first_until t p slots)) (shown-either p s (in_range t s) (nat_le s.0.at t) (λ small. and-true (is_le (moment_cmp (greatest_at t) s.0)) ∙ range-until t s.0 small))
+    ap (λ x. or_else x (first_until t p slots)) (shown-either p s (in_range t s) (nat_le s.0.at t) (λ small. and-true (is_le (version_key_cmp (greatest_at t) s.0)) ∙ range-until t s.0 small))
     ∙ ap (or_else (if in_range t s then shown p s else None)) (first_shown-range t p slots)
     ∙ first_shown-if p s (in_range t s) (filter (in_range t) slots)
 
 -- the first slot that has a version
-pub first_shown-here : (p : Parts) (s : Slot) (h : Held) (slots : List Slot) → s.1 ≡ Some h → s.0.number < 4294967296
+pub first_shown-here : (p : Parts) (s : Slot) (h : VersionValue) (slots : List Slot) → s.1 ≡ Some h → s.0.number < 4294967296
     → first_shown p (s ∷ slots) ≡ Some (version_of p s.0 h)
 first_shown-here p (m, o) h slots is small =
     let is_small : nat_lt m.number 4294967296 ≡ true = grind (arith, nat_tests) in

@@ -13,10 +13,10 @@ use Rattle.doc_path.specs.Path.{Parts}
 use Rattle.txn_data.specs.declared.version.Version.{Version}
 use Rattle.txn_data.specs.declared.window.Window.{Window}
 use Rattle.txn_types.specs.Lists.{Member, or_else}
-use Rattle.regular_records.specs.declared.moment.Moment.{Moment}
-use Rattle.regular_records.specs.declared.moment.Held.{Held}
+use Rattle.regular_records.specs.declared.version_key.VersionKey.{VersionKey}
+use Rattle.regular_records.specs.declared.version_value.VersionValue.{VersionValue}
 use Rattle.regular_records.specs.Store.{Slot, version_of, shown, versions_on}
-use Rattle.regular_records.specs.Kept.{moment_order}
+use Rattle.regular_records.specs.Kept.{version_key_order}
 use Rattle.regular_records.specs.Related.{was_written, start_of, time_of, first_time}
 use Rattle.regular_records.proofs.Prefix.{and-left, and-right}
 use Rattle.regular_records.proofs.Kept.{member-cons_option, slot-of, shown-path, all-member, member-cons}
@@ -46,18 +46,18 @@ skip-best f o vs None none b = λ v m g. elim (member-cons_option v o vs m) [ in
 skip-best f o vs (Some c) none b =
     ((b.0.0, member-cons b.0.0 o vs b.0.1, b.0.2, b.0.3), λ v m g. elim (member-cons_option v o vs m) [ inl e ↦ absurd (none v e g) | inr n ↦ b.1 v n g ])
 
-older-at : (m n : Moment) → moment_order m n ≡ Less → n.at ≤ m.at
+older-at : (m n : VersionKey) → version_key_order m n ≡ Less → n.at ≤ m.at
 older-at m n h = grind (arith, nat_tests)
 
-rest-older : (p : Parts) (s : Slot) (slots : List Slot) → AllByRecursion (λ y. moment_order s.0 y ≡ Less) (keys_of slots) → (v : Version) → Member v (versions_on p slots) → v.at ≤ s.0.at
+rest-older : (p : Parts) (s : Slot) (slots : List Slot) → AllByRecursion (λ y. version_key_order s.0 y ≡ Less) (keys_of slots) → (v : Version) → Member v (versions_on p slots) → v.at ≤ s.0.at
 rest-older p s slots a v m =
     let other = slot-of p slots v m in
-    let older = older-at s.0 other.0.0 (all-member (λ y. moment_order s.0 y ≡ Less) (keys_of slots) other.0.0 a other.1) in
+    let older = older-at s.0 other.0.0 (all-member (λ y. version_key_order s.0 y ≡ Less) (keys_of slots) other.0.0 a other.1) in
     let is = (shown-path p other.0 v other.2).1 in
     omega arith
 
 abbrev pub in_start : Option Window → Slot → Bool
-in_start w s = range_contains moment_order (start_of w) Unbounded s.0
+in_start w s = range_contains version_key_order (start_of w) Unbounded s.0
 
 not-above : (t n : ℕ) → nat_le n t ≡ true → nat_lt t n ≡ true → ⊥
 not-above t n h k = grind (arith, nat_tests)
@@ -93,16 +93,16 @@ before-window t (Some w) p (m, Some h) out u is g =
 
 -- ---- the first that passes
 
-not-written : (t : ℕ) (w : Option Window) (p : Parts) (m : Moment) (h : Held) → was_written w h ≡ false → passes t w (version_of p m h) ≡ true → ⊥
+not-written : (t : ℕ) (w : Option Window) (p : Parts) (m : VersionKey) (h : VersionValue) → was_written w h ≡ false → passes t w (version_of p m h) ≡ true → ⊥
 not-written t None p m h put g = true-not-false put
 not-written t (Some w) p m h put g =
     true-not-false (sym (and-right (nat_le m.at w.g) (nat_le h.wrote w.limit) (and-right (nat_lt t m.at) (in_window (Some w) (version_of p m h)) g)) ∙ put)
 
-window-from : (w : Option Window) (p : Parts) (m : Moment) (h : Held) → nat_lt m.number 4294967296 ≡ true → was_written w h ≡ true → in_start w (m, Some h) ≡ true → in_window w (version_of p m h) ≡ true
+window-from : (w : Option Window) (p : Parts) (m : VersionKey) (h : VersionValue) → nat_lt m.number 4294967296 ≡ true → was_written w h ≡ true → in_start w (m, Some h) ≡ true → in_window w (version_of p m h) ≡ true
 window-from None p m h small put inside = refl
 window-from (Some w) p m h small put inside = both (nat_le m.at w.g) (nat_le h.wrote w.limit) (in-early m.at m.number w.g small inside) put
 
-here-best : (t : ℕ) (w : Option Window) (p : Parts) (m : Moment) (h : Held) (slots : List Slot) (r : Option ℕ) (small written : Bool)
+here-best : (t : ℕ) (w : Option Window) (p : Parts) (m : VersionKey) (h : VersionValue) (slots : List Slot) (r : Option ℕ) (small written : Bool)
     → nat_lt m.number 4294967296 ≡ small → was_written w h ≡ written → in_start w (m, Some h) ≡ true → nat_le m.at t ≡ false
     → ((v : Version) → Member v (versions_on p slots) → v.at ≤ m.at)
     → IsBestTime (passes t w) (versions_on p slots) r
@@ -125,7 +125,7 @@ slot-best t w p (m, None) slots r inside above older rest = rest
 slot-best t w p (m, Some h) slots r inside above older rest =
     here-best t w p m h slots r (nat_lt m.number 4294967296) (was_written w h) refl refl inside above older rest
 
-pub times-best : (t : ℕ) (w : Option Window) (p : Parts) (slots : List Slot) → IsStrictlySortedBy moment_order (keys_of slots)
+pub times-best : (t : ℕ) (w : Option Window) (p : Parts) (slots : List Slot) → IsStrictlySortedBy version_key_order (keys_of slots)
     → IsBestTime (passes t w) (versions_on p slots) (first_time t w (filter (in_start w) slots))
 unfolding IsStrictlySortedBy
 times-best t w p [] o = λ v m g. m

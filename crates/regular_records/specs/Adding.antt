@@ -8,29 +8,29 @@ use Rattle.doc_path.specs.Path.{Parts}
 use Rattle.txn_data.specs.declared.version.Version.{Version}
 use Rattle.txn_types.specs.Lists.{Member}
 use Rattle.txn_types.specs.Tablet.{same_place}
-use Rattle.regular_records.specs.declared.moment.Moment.{Moment}
-use Rattle.regular_records.specs.declared.moment.Held.{Held}
-use Rattle.regular_records.specs.Store.{Key, Moments, Slot}
-use Rattle.regular_records.specs.Kept.{moment_order}
+use Rattle.regular_records.specs.declared.version_key.VersionKey.{VersionKey}
+use Rattle.regular_records.specs.declared.version_value.VersionValue.{VersionValue}
+use Rattle.regular_records.specs.Store.{Key, PathVersions, Slot}
+use Rattle.regular_records.specs.Kept.{version_key_order}
 
--- what the entries have at a path, and what the slots have at a moment
-abbrev pub at_path : Parts → List (Key × Moments) → Option Moments
+-- what the entries have at a path, and what the slots have at a key
+abbrev pub at_path : Parts → List (Key × PathVersions) → Option PathVersions
 at_path p es = lookup (is_at (λ (k : Key). slice_cmp (slice_cmp nat_cmp) p k.items)) es
 
-abbrev pub at_moment : Moment → List Slot → Option (Option Held)
-at_moment m slots = lookup (is_at (moment_order m)) slots
+abbrev pub at_version_key : VersionKey → List Slot → Option (Option VersionValue)
+at_version_key m slots = lookup (is_at (version_key_order m)) slots
 
--- the slots with one for this moment, which is without a version where it is new
-abbrev pub with_slot : Moment → List Slot → List Slot
-with_slot m slots = if is_some (at_moment m slots) then slots else insert_entry moment_order slots m None
+-- the slots with one for this key, which is without a version where it is new
+abbrev pub with_slot : VersionKey → List Slot → List Slot
+with_slot m slots = if is_some (at_version_key m slots) then slots else insert_entry version_key_order slots m None
 
-abbrev pub moment_of : Version → Moment
-moment_of v = record { at = v.at; number = v.number }
+abbrev pub version_key_of : Version → VersionKey
+version_key_of v = record { at = v.at; number = v.number }
 
-abbrev pub HasSlot : List (Key × Moments) → Version → Type 0
-HasSlot es v = MatchOption (at_path v.path es) ⊥ (λ (m : Moments). IsSome (at_moment (moment_of v) m.entries))
+abbrev pub HasSlot : List (Key × PathVersions) → Version → Type 0
+HasSlot es v = MatchOption (at_path v.path es) ⊥ (λ (m : PathVersions). IsSome (at_version_key (version_key_of v) m.entries))
 
-abbrev pub HaveSlots : List (Key × Moments) → List Version → Type 0
+abbrev pub HaveSlots : List (Key × PathVersions) → List Version → Type 0
 HaveSlots es [] = Unit {0}
 HaveSlots es (v ∷ vs) = HasSlot es v × HaveSlots es vs
 

@@ -6,4 +6,6 @@ pub mod Kept
 pub mod Scan
 pub mod Adding
 pub mod Related
+pub mod NewestBeneath
+pub mod PrefixWords
 pub mod Merged

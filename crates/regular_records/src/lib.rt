@@ -10,12 +10,15 @@ mod decided;
 pub mod laws;
 mod map_versions;
 mod merged;
-mod moment;
+mod newest_beneath;
+mod prefix_words;
 mod related;
 mod scan;
 mod store;
 #[cfg(test)]
 mod tests;
+mod version_key;
+mod version_value;
 mod versions;
 mod word;
 

@@ -2,11 +2,12 @@
 ghost use Rattle.std.specs.Prelude.{[]};
 ghost use Rattle.regular_records.specs.Holding.{Holds};
 
-use crate::adding::{fill_slots, make_slots};
+use crate::adding::{fill_slots, make_places, make_slots};
 use crate::decided::Decided;
-use crate::related::{best_of, newest_related};
+use crate::newest_beneath::NewestBeneath;
+use crate::related::{best_of, time_above};
 use crate::scan::rows_at;
-use crate::store::Paths;
+use crate::store::VersionStore;
 use crate::versions::Versions;
 use crate::word::{newest_word, value_at};
 use doc_path::Path;
@@ -14,13 +15,14 @@ use docdb_base::Memory;
 use hybrid_time::HybridTime;
 use std::alloc::Global;
 use std::marker::Model;
-use txn_types::{Bytes, MetAt, Paths as PathList, Rows, Version, Window};
+use txn_types::{Bytes, MetAt, Paths, Rows, Version, Window};
 
 /// Versions in an ordered map, by path and then newest first. Every path fits.
 #[derive(Drop)]
 pub struct MapVersions {
     alloc: Global,
-    paths: Paths,
+    paths: VersionStore,
+    beneath: NewestBeneath,
 }
 
 impl Model for MapVersions {
@@ -31,10 +33,11 @@ impl Model for MapVersions {
 
     ghost use Rattle.regular_records.specs.Store.{versions_of};
     ghost use Rattle.regular_records.specs.Kept.{IsKept};
+    ghost use Rattle.regular_records.specs.NewestBeneath.{SumsUp};
 
     ghost view = { λ m. versions_of m.paths.entries };
 
-    ghost invariant = { λ m. IsKept m.paths };
+    ghost invariant = { λ m. IsKept m.paths × SumsUp m.beneath (versions_of m.paths.entries) };
 }
 
 impl MapVersions {
@@ -44,7 +47,8 @@ impl MapVersions {
     {
         MapVersions {
             alloc,
-            paths: Paths::new(alloc),
+            paths: VersionStore::new(alloc),
+            beneath: NewestBeneath::new(alloc),
         }
     }
 }
@@ -64,7 +68,8 @@ impl Versions for MapVersions {
 
     fn add_all(&mut self, list: Vec<Version>) -> Result<(), Memory> {
         make_slots(&mut self.paths, self.alloc, &list)?;
-        fill_slots(&mut self.paths, list);
+        make_places(&mut self.beneath, &list)?;
+        fill_slots(&mut self.paths, &mut self.beneath, list);
         Ok(())
     }
 
@@ -77,19 +82,16 @@ impl Versions for MapVersions {
     }
 
     fn newest_related_above(&self, path: &Path, t: HybridTime) -> Option<HybridTime> {
-        match newest_related(&self.paths, path.as_parts(), t, None) {
-            Some(newest) => Some(newest.moment.at),
-            None => None,
-        }
+        time_above(&self.paths, &self.beneath, path.as_parts(), t)
     }
 
-    fn window(&self, paths: &PathList, t: HybridTime, w: &Window) -> Result<Option<MetAt>, Memory> {
-        match best_of(&self.paths, paths.items(), t, w) {
+    fn window(&self, paths: &Paths, t: HybridTime, w: &Window) -> Result<Option<MetAt>, Memory> {
+        match best_of(&self.paths, &self.beneath, paths.items(), t, w) {
             None => Ok(None),
             Some(met) => {
                 let path = Path::of_parts(self.alloc, met.path)?;
                 Ok(Some(MetAt {
-                    at: met.moment.at,
+                    at: met.key.at,
                     path,
                 }))
             }

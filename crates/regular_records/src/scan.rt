@@ -5,8 +5,8 @@ ghost use Rattle.txn_types.specs.Writes.{row_with};
 ghost use Rattle.regular_records.specs.Kept.{IsKept};
 ghost use Rattle.regular_records.specs.Scan.{rows_down, entries_from};
 
-use crate::store::Paths;
-use crate::word::value_at;
+use crate::prefix_words::PrefixWords;
+use crate::store::VersionStore;
 use doc_path::{Path, PathPart};
 use docdb_base::Memory;
 use hybrid_time::HybridTime;
@@ -16,7 +16,7 @@ use txn_types::{Bytes, Row, Rows};
 /// All paths at or beneath this one that have a value at the time t, each with its value, in path order.
 pub fn rows_at(
     alloc: Global,
-    paths: &Paths,
+    paths: &VersionStore,
     path: &Vec<PathPart>,
     t: HybridTime,
 ) -> Result<Rows, Memory>
@@ -24,12 +24,13 @@ pub fn rows_at(
     ensures { IfOk result (λ rows. rows ≡ rows_down t path.now.items paths.now (entries_from path.now paths.now)) }
 {
     let mut rows = Rows::new(alloc);
-    for (beneath, _) in paths.range(path..) {
+    let mut words = PrefixWords::new(alloc);
+    for (beneath, versions) in paths.range(path..) {
         if !begins(path, beneath) {
             break;
         }
-        let value = value_at(alloc, paths, beneath, t)?;
-        push_row(&mut rows, alloc, beneath, value)?;
+        words.go_to(paths, beneath, versions, t)?;
+        push_row(&mut rows, alloc, beneath, words.value(alloc)?)?;
     }
     Ok(rows)
 }

@@ -1,12 +1,13 @@
 //! Which version decides what is at a path.
 ghost use Rattle.std.specs.Prelude.{◌≡◌, ℕ, ◌≤◌, ◌||◌, ◌&&◌, nat_lt, nat_eq, length, take, option_map, IfOk, IfSome};
 ghost use Rattle.doc_path.specs.Path.{Parts};
-ghost use Rattle.regular_records.specs.Store.{first_until as first_on, first_at, moments_at, newest_upto, word_version, IsLonger};
+ghost use Rattle.regular_records.specs.Store.{first_until as first_on, first_at, path_versions_at, newest_upto, word_version, IsLonger};
 ghost use Rattle.txn_types.specs.Writes.{set_at};
 ghost use Rattle.regular_records.specs.Records.{later as later_of, write_of};
 
-use crate::moment::{Held, Moment};
-use crate::store::{Moments, Paths};
+use crate::store::{PathVersions, VersionStore};
+use crate::version_key::VersionKey;
+use crate::version_value::VersionValue;
 use doc_path::PathPart;
 use docdb_base::{Memory, TryCopy};
 use hybrid_time::HybridTime;
@@ -20,13 +21,13 @@ pub struct Word<'a> {
     pub parts: usize,
     pub at: &'a HybridTime,
     pub number: u32,
-    pub held: &'a Held,
+    pub value: &'a VersionValue,
 }
 
 /// The value at a path at the time t.
 pub fn value_at(
     alloc: Global,
-    paths: &Paths,
+    paths: &VersionStore,
     path: &[PathPart],
     t: HybridTime,
 ) -> Result<Option<Bytes>, Memory>
@@ -38,21 +39,25 @@ pub fn value_at(
     }
 }
 
-// The value that a word sets at a path of so many parts.
-fn word_value(alloc: Global, word: &Word<'_>, parts: usize) -> Result<Option<Bytes>, Memory>
+/// The value that a word sets at a path of so many parts.
+pub fn word_value(alloc: Global, word: &Word<'_>, parts: usize) -> Result<Option<Bytes>, Memory>
     ensures { (p : Parts) → length p ≡ parts → word.now.parts ≤ parts → IfOk result (λ found. found ≡ set_at p (Some (write_of (word_version p word.now)))) }
 {
     if word.parts < parts {
         return Ok(None);
     }
-    match &word.held.op {
+    match &word.value.op {
         Op::Put(bytes) => Ok(Some(bytes.try_copy(alloc)?)),
         Op::Delete => Ok(None),
     }
 }
 
 /// The newest version up to t whose path is a prefix of this one. It goes down the prefixes.
-pub fn newest_word<'a>(paths: &'a Paths, path: &[PathPart], t: HybridTime) -> Option<Word<'a>>
+pub fn newest_word<'a>(
+    paths: &'a VersionStore,
+    path: &[PathPart],
+    t: HybridTime,
+) -> Option<Word<'a>>
     ensures value { option_map (word_version path.now) result ≡ newest_upto t path.now paths.now (length path.now) }
     ensures parts { IfSome result (λ w. w.parts ≤ length path.now) }
 {
@@ -63,41 +68,41 @@ pub fn newest_word<'a>(paths: &'a Paths, path: &[PathPart], t: HybridTime) -> Op
     word
 }
 
-// The newest version up to t at exactly this path.
-fn word_at<'a>(paths: &'a Paths, path: &[PathPart], t: HybridTime) -> Option<Word<'a>>
-    ensures value { (p : Parts) → option_map (word_version p) result ≡ first_at t (take (length path.now) p) (moments_at path.now paths.now) }
+/// The newest version up to t at exactly this path.
+pub fn word_at<'a>(paths: &'a VersionStore, path: &[PathPart], t: HybridTime) -> Option<Word<'a>>
+    ensures value { (p : Parts) → option_map (word_version p) result ≡ first_at t (take (length path.now) p) (path_versions_at path.now paths.now) }
     ensures parts { IfSome result (λ w. w.parts ≡ length path.now) }
 {
     match paths.get(path) {
-        Some(moments) => first_until(moments, path.len(), t),
+        Some(versions) => first_until(versions, path.len(), t),
         None => None,
     }
 }
 
-// The newest version of one path up to t.
-fn first_until<'a>(moments: &'a Moments, parts: usize, t: HybridTime) -> Option<Word<'a>>
-    ensures value { (p : Parts) → option_map (word_version p) result ≡ first_on t (take parts p) moments.now.entries }
+/// The newest version of one path up to t.
+pub fn first_until<'a>(versions: &'a PathVersions, parts: usize, t: HybridTime) -> Option<Word<'a>>
+    ensures value { (p : Parts) → option_map (word_version p) result ≡ first_on t (take parts p) versions.now.entries }
     ensures parts { IfSome result (λ w. w.parts ≡ parts) }
 {
-    let from = Moment {
+    let from = VersionKey {
         at: t,
         number: u32::MAX,
     };
-    for (moment, slot) in moments.range(from..) {
-        if let Some(held) = slot {
+    for (key, slot) in versions.range(from..) {
+        if let Some(value) = slot {
             return Some(Word {
                 parts,
-                at: &moment.at,
-                number: moment.number(),
-                held,
+                at: &key.at,
+                number: key.number(),
+                value,
             });
         }
     }
     None
 }
 
-// The newer of two, the second where they tie: its path is longer.
-fn later<'a>(first: Option<Word<'a>>, second: Option<Word<'a>>) -> Option<Word<'a>>
+/// The newer of two, the second where they tie: its path is longer.
+pub fn later<'a>(first: Option<Word<'a>>, second: Option<Word<'a>>) -> Option<Word<'a>>
     ensures value { (p : Parts) → IsLonger p first.entry second.entry → option_map (word_version p) result ≡ later_of (option_map (word_version p) first.entry) (option_map (word_version p) second.entry) }
     ensures parts { (n : ℕ) → IfSome first.entry (λ w. w.parts ≤ n) → IfSome second.entry (λ w. w.parts ≤ n) → IfSome result (λ w. w.parts ≤ n) }
 {

@@ -6,6 +6,7 @@ use Rattle.regular_records.specs.Holding.{Holds}
 use Rattle.regular_records.specs.Store.{versions_of}
 use Rattle.regular_records.specs.Kept.{IsKept}
 use Rattle.regular_records.specs.Adding.{HaveSlots}
+use Rattle.regular_records.specs.NewestBeneath.{HavePlaces, SumsUp}
 use Rattle.regular_records.proofs.adding.fill_slots.Given as goal
 
 abbrev pub invariant-loop-version : goal.invariant-loop-version
@@ -13,6 +14,8 @@ invariant-loop-version l = record {
   kept : IsKept l.paths;
   count : length (into_iter_items l.version-iterator) ≡ into_iter_len l.version-iterator;
   slots : HaveSlots l.paths.entries (into_iter_items l.version-iterator);
+  places : HavePlaces (into_iter_items l.version-iterator) l.beneath;
+  sums : SumsUp l.initial.beneath (versions_of l.initial.paths.entries) → SumsUp l.beneath (versions_of l.paths.entries);
   holds : (vs : List Version) → Holds (versions_of l.initial.paths.entries) vs
       → (us : List Version) × Holds (versions_of l.paths.entries) us × (with_versions us (into_iter_items l.version-iterator) ≡ with_versions vs l.fn.list.items);
 }

@@ -1,20 +1,11 @@
-use Rattle.std.proofs.Common.{sym, ◌∙◌}
+use Rattle.std.proofs.Common.{◌∙◌}
 use Rattle.std.proofs.lemmas.Result.{IfOk-weaker}
-use Rattle.regular_records.proofs.Both.{older-newest, newer-newest}
 use Rattle.regular_records.proofs.merged.get_merged.Goals as goal
 
-pub returns-then-lt : goal.returns-then-lt
-returns-then-lt g c us vs h k =
-    let d = c.decided_at.ensures vs k in
-    let e = c.decided_at-2.ensures us h in
-    IfOk-weaker c.get_at.result _ _
-    (λ found f. f ∙ older-newest c.args.t c.args.path.now us vs c.decided_at.result c.decided_at-2.result d e (sym c.lt.ensures ∙ c.if-lt.true))
-    (c.get_at.ensures us h)
+pub returns-then-is_older : goal.returns-then-is_older
+returns-then-is_older g c us vs h k =
+    IfOk-weaker c.get_at.result _ _ (λ found f. f ∙ c.is_older.ensures.older us vs h k c.if-is_older.true) (c.get_at.ensures us h)
 
-pub returns-else-lt : goal.returns-else-lt
-returns-else-lt g c us vs h k =
-    let d = c.decided_at.ensures vs k in
-    let e = c.decided_at-2.ensures us h in
-    IfOk-weaker c.get_at-else-lt.result _ _
-    (λ found f. f ∙ newer-newest c.args.t c.args.path.now us vs c.decided_at.result c.decided_at-2.result d e (sym c.lt.ensures ∙ c.if-lt.false))
-    (c.get_at-else-lt.ensures vs k)
+pub returns-else-is_older : goal.returns-else-is_older
+returns-else-is_older g c us vs h k =
+    IfOk-weaker c.get_at-else-is_older.result _ _ (λ found f. f ∙ c.is_older.ensures.newer us vs h k c.if-is_older.false) (c.get_at-else-is_older.ensures vs k)

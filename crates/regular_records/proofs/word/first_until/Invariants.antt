@@ -4,5 +4,5 @@ use Rattle.regular_records.specs.Store.{first_until}
 use Rattle.regular_records.proofs.Slots.{first_shown}
 use Rattle.regular_records.proofs.word.first_until.Given as goal
 
-abbrev pub invariant-loop-moment : goal.invariant-loop-moment
-invariant-loop-moment l = (p : Parts) → first_until l.fn.t p l.moments.entries ≡ first_shown p l.moment-iterator
+abbrev pub invariant-loop-key : goal.invariant-loop-key
+invariant-loop-key l = (p : Parts) → first_until l.fn.t p l.versions.entries ≡ first_shown p l.key-iterator

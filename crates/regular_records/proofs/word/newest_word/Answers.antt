@@ -1,29 +1,14 @@
-use Rattle.std.proofs.Common.{◌≡◌, ℕ, ◌+◌, ◌≤◌, ◌<◌, length, refl, arith, ap, ◌∙◌, take, subst, Option, Some, None, add-one}
+use Rattle.std.proofs.Common.{◌≡◌, ℕ, ◌+◌, ◌<◌, length, refl, arith, ap, ◌∙◌, take, subst, add-one}
 use Rattle.std.specs.Prelude.{option_map, IfSome}
 use Rattle.std.proofs.lemmas.List.{length-take-le}
-use Rattle.doc_path.specs.Path.{Parts}
-use Rattle.regular_records.specs.declared.word.Word.{Word}
 use Rattle.regular_records.specs.Records.{later}
-use Rattle.regular_records.specs.Store.{newest_upto, word_version, IsLonger}
+use Rattle.regular_records.specs.Store.{newest_upto, word_version}
+use Rattle.regular_records.proofs.Words.{is_longer, at_most, equal_most}
 use Rattle.regular_records.proofs.word.newest_word.Goals as goal
 
 pub loop-i-init : goal.loop-i-init
 unfolding newest_upto
 loop-i-init c = record { value = refl; parts = tt }
-
-is_longer : (p : Parts) (i : ℕ) (w o : Option Word) → i < length p → IfSome w (λ x. x.parts ≤ i) → IfSome o (λ x. x.parts ≡ i + 1) → IsLonger p w o
-is_longer p i None None lt h k = tt
-is_longer p i None (Some o) lt h k = tt
-is_longer p i (Some w) None lt h k = tt
-is_longer p i (Some w) (Some o) lt h k = (omega arith, omega arith)
-
-at_most : (n m : ℕ) (o : Option Word) → n ≤ m → IfSome o (λ x. x.parts ≤ n) → IfSome o (λ x. x.parts ≤ m)
-at_most n m None le h = tt
-at_most n m (Some w) le h = omega arith
-
-equal_most : (n : ℕ) (o : Option Word) → IfSome o (λ x. x.parts ≡ n) → IfSome o (λ x. x.parts ≤ n)
-equal_most n None h = tt
-equal_most n (Some w) h = omega arith
 
 pub loop-i-preserved : goal.loop-i-preserved
 unfolding newest_upto
@@ -33,7 +18,7 @@ loop-i-preserved c =
     let in_path : i < length p = c.loop-i-test.true in
     let many : length (take (i + 1) p) ≡ i + 1 = length-take-le (i + 1) p (omega arith) in
     let parts : IfSome c.word_at.result (λ x. x.parts ≡ i + 1) = let P : ℕ → Type 0 = λ n. IfSome c.word_at.result (λ x. x.parts ≡ n) in subst P many c.word_at.ensures.parts in
-    let step = c.later-word.ensures.value p (is_longer p i c.loop-i.word c.word_at.result in_path c.loop-i.invariant.parts parts) in
+    let step = c.later-word.ensures.value p (is_longer p i (i + 1) c.loop-i.word c.word_at.result refl in_path c.loop-i.invariant.parts parts) in
     record {
       value = rw add-one (step
           ∙ ap (λ x. later x (option_map (word_version p) c.word_at.result)) c.loop-i.invariant.value

@@ -12,7 +12,7 @@ pub returns-in-None : goal.returns-in-None
 returns-in-None c vs h =
     let q = c.deref.result.now in
     let store = c.self.inside.paths in
-    let found = newest-at c.args.t c.args.path.now q store vs c.self.invariant (held-by c.args.self.now store vs c.self.view_is h) (c.deref.ensures.value ∙ c.as_parts.ensures.value) in
+    let found = newest-at c.args.t c.args.path.now q store vs c.self.invariant.0 (held-by c.args.self.now store vs c.self.view_is h) (c.deref.ensures.value ∙ c.as_parts.ensures.value) in
     ap (option_map decided_by)
     (sym (ap (option_map (word_version q)) c.in-None.is) ∙ c.newest_word.ensures.value ∙ found)
 
@@ -23,7 +23,7 @@ returns-in-Some c vs h =
     let w = c.in-Some.word in
     let P : Option Word → Type 0 = λ o. IfSome o (λ w. w.parts ≤ length q) in
     let fits : w.parts ≤ length q = subst P c.in-Some.is c.newest_word.ensures.parts in
-    let found = newest-at c.args.t c.args.path.now q store vs c.self.invariant (held-by c.args.self.now store vs c.self.view_is h) (c.deref.ensures.value ∙ c.as_parts.ensures.value) in
+    let found = newest-at c.args.t c.args.path.now q store vs c.self.invariant.0 (held-by c.args.self.now store vs c.self.view_is h) (c.deref.ensures.value ∙ c.as_parts.ensures.value) in
     let as_decided : ℕ → Option Decided = λ n. Some (record { at = w.at.now; number = w.number; parts = n }) in
     ap as_decided (sym (length-take-le w.parts q fits))
     ∙ ap (option_map decided_by) (sym (ap (option_map (word_version q)) c.in-Some.is) ∙ c.newest_word.ensures.value ∙ found)

@@ -7,7 +7,7 @@ pub returns-clause-rows : goal.returns-clause-rows
 returns-clause-rows c vs h =
     let store = c.self.inside.paths in
     if_ok-same c.rows_at.result _ _
-    (rows-kept c.args.t c.as_parts.result.now store vs c.args.path.now c.self.invariant (held-by c.args.self.now store vs c.self.view_is h) c.as_parts.ensures.value)
+    (rows-kept c.args.t c.as_parts.result.now store vs c.args.path.now c.self.invariant.0 (held-by c.args.self.now store vs c.self.view_is h) c.as_parts.ensures.value)
     c.rows_at.ensures
 
 pub returns-clause-fit : goal.returns-clause-fit

@@ -1,18 +1,17 @@
-//! When a version was committed, and what it holds.
+//! The key of a version among those of its path.
 ghost use Rattle.std.specs.Prelude.{◌≡◌, ◌<◌};
 
 use hybrid_time::HybridTime;
 use std::cmp::Ordering;
-use txn_types::Op;
 
 /// The commit time and the write number of a version. They are ordered with the newest first.
 #[derive(Clone, Copy, Debug, PartialEq, Eq)]
-pub struct Moment {
+pub struct VersionKey {
     pub at: HybridTime,
     pub number: u32,
 }
 
-impl Moment {
+impl VersionKey {
     /// The commit time.
     pub fn at(&self) -> HybridTime
         ensures value { result ≡ self.now.at }
@@ -31,7 +30,7 @@ impl Moment {
     }
 }
 
-impl Ord for Moment {
+impl Ord for VersionKey {
     ghost use Rattle.std.proofs.Common.{rules};
     ghost use Rattle.std.specs.Cmp.Rules.{comparing};
     ghost use Rattle.std.specs.Ordering.{nat_cmp, on, flip_args, then_cmp};
@@ -44,12 +43,12 @@ impl Ord for Moment {
 
     ghost matches_eq = { Prim.search (comparing, rules) };
 
-    fn cmp(&self, other: &Moment) -> Ordering {
+    fn cmp(&self, other: &VersionKey) -> Ordering {
         other.at.cmp(&self.at).then(other.number.cmp(&self.number))
     }
 }
 
-impl PartialOrd for Moment {
+impl PartialOrd for VersionKey {
     ghost use Rattle.std.proofs.Common.{rules};
     ghost use Rattle.std.specs.Cmp.{partial_order_from_own_ties};
     ghost use Rattle.std.specs.Cmp.Rules.{comparing};
@@ -59,15 +58,7 @@ impl PartialOrd for Moment {
 
     ghost laws = { partial_order_from_own_ties (Prim.search (comparing, rules)) (Prim.search (comparing, rules)) };
 
-    fn partial_cmp(&self, other: &Moment) -> Option<Ordering> {
+    fn partial_cmp(&self, other: &VersionKey) -> Option<Ordering> {
         Some(self.cmp(other))
     }
-}
-
-/// What a version holds besides its path, its commit time and its number.
-#[derive(Debug, Drop)]
-pub struct Held {
-    /// The time at which it was provisional.
-    pub wrote: HybridTime,
-    pub op: Op,
 }
