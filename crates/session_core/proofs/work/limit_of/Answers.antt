@@ -2,7 +2,7 @@ use Rattle.std.proofs.Common.{arith}
 use Rattle.std.proofs.lemmas.Grind.{common_steps}
 use Rattle.std.proofs.lemmas.List.{drop_more, drop_all}
 use Rattle.txn_types.specs.ReadProgram.{limit_of as defined}
-use Rattle.session_core.proofs.hearing.limit_of.Goals as goal
+use Rattle.session_core.proofs.work.limit_of.Goals as goal
 
 pub returns-then-of-tablet : goal.returns-then-of-tablet
 unfolding defined

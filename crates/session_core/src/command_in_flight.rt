@@ -1,4 +1,4 @@
-//! The command that is under way.
+//! The command that is in flight.
 ghost use Rattle.std.specs.Prelude.{◌≡◌, ℕ, ◌<◌, ◌+◌, ◌^◌, ◌&&◌, not, true, false, None, is_none, IfOk, OnOk, OnErr};
 ghost use Rattle.txn_data.specs.declared.config.Config.{Config};
 ghost use Rattle.txn_data.specs.declared.actor.Actor.TheVariants.{Session};
@@ -6,23 +6,22 @@ ghost use Rattle.txn_data.specs.declared.event.Event.TheVariants.{Start, Hear};
 ghost use Rattle.txn_types.specs.Program.{turn};
 ghost use Rattle.txn_types.specs.Run.{mover_after, limits_after, is_settling as settles};
 ghost use Rattle.txn_types.specs.Session.{Keeps};
-ghost use Rattle.session_core.specs.Kept.{keeps, IsOf, IsNamed, who};
+ghost use Rattle.session_core.specs.SessionState.{keeps, IsOf, IsNamed, who};
 ghost use Rattle.session_core.specs.Lines.{has_few_places, is_listed, writes_line};
-ghost use Rattle.session_core.specs.Opened.{written, HaveRoom};
+ghost use Rattle.session_core.specs.OpenTxn.{written, HaveRoom};
 ghost use Rattle.session_core.specs.Turn.{turn_of, is_ask, asks_list, is_wanting};
 ghost use Rattle.session_core.specs.Work.{waits, is_reading, is_read, HasLimitRoom};
 
-use crate::hearing::is_settling;
-use crate::kept::Kept;
+use crate::session_state::SessionState;
 use crate::starting::work_of;
 use crate::turn::Turn;
 use crate::work::Work;
 use docdb_base::{Memory, TryCopy};
 use txn_types::{Actor, Command, Reply};
 
-/// The command that is under way, and what is done for it.
+/// The command that is in flight, and what is done for it.
 #[derive(Drop)]
-pub(crate) struct UnderWay {
+pub(crate) struct CommandInFlight {
     pub(crate) line: Command,
     pub(crate) work: Work,
     /// The reading that stands in its first request.
@@ -31,26 +30,26 @@ pub(crate) struct UnderWay {
     pub(crate) may_lose: bool,
 }
 
-impl UnderWay {
+impl CommandInFlight {
     ghost use Rattle.session_core.specs.Mover.{between, within};
-    ghost use Rattle.session_core.specs.UnderWay.{IsSound, limits_under};
+    ghost use Rattle.session_core.specs.CommandInFlight.{IsSound, limits_under};
 
     /// A command that starts. A write in the open transaction has room then.
-    pub(crate) fn start(kept: &mut Kept, command: &Command) -> Result<UnderWay, Memory>
-        requires serial { kept.old.serial < 2 ^ 63 }
-        requires written { written kept.old.transaction < 2 ^ 32 }
+    pub(crate) fn start(state: &mut SessionState, command: &Command) -> Result<CommandInFlight, Memory>
+        requires serial { state.old.serial < 2 ^ 63 }
+        requires written { written state.old.transaction < 2 ^ 32 }
         requires places { has_few_places command.now ≡ true }
-        ensures mover { (config : Config) (n : ℕ) → IsOf config kept.old → IfOk result (λ u. within config kept.old.session (keeps kept.old) (n + 1) u ≡ mover_after config (who kept.old) (between (keeps kept.old) n) None (Start (n + 1) command.now)) }
+        ensures mover { (config : Config) (n : ℕ) → IsOf config state.old → IfOk result (λ u. within config state.old.session (keeps state.old) (n + 1) u ≡ mover_after config (who state.old) (between (keeps state.old) n) None (Start (n + 1) command.now)) }
         ensures sound { IfOk result (λ u. IsSound u) }
-        ensures closed { IfOk result (λ u. is_reading u.work ≡ true → is_none kept.new.transaction ≡ true) }
-        ensures room { IfOk result (λ u. writes_line u.line ≡ true → HaveRoom kept.new.transaction) }
-        ensures keeps { keeps kept.new ≡ keeps kept.old }
-        ensures named { IsNamed kept.old kept.new }
+        ensures closed { IfOk result (λ u. is_reading u.work ≡ true → is_none state.new.transaction ≡ true) }
+        ensures room { IfOk result (λ u. writes_line u.line ≡ true → HaveRoom state.new.transaction) }
+        ensures keeps { keeps state.new ≡ keeps state.old }
+        ensures named { IsNamed state.old state.new }
     {
-        kept.make_room(command)?;
-        Ok(UnderWay {
-            line: command.try_copy(kept.alloc)?,
-            work: work_of(kept, command)?,
+        state.make_room(command)?;
+        Ok(CommandInFlight {
+            line: command.try_copy(state.alloc)?,
+            work: work_of(state, command)?,
             reading: None,
             may_lose: true,
         })
@@ -80,10 +79,10 @@ impl UnderWay {
     }
 
     /// What comes next. Where it asks, it is as before, and there is room for a limit that it may hear of.
-    pub(crate) fn next(&mut self, kept: &mut Kept) -> Result<Turn, Memory>
+    pub(crate) fn next(&mut self, state: &mut SessionState) -> Result<Turn, Memory>
         requires sound { IsSound self.old }
-        ensures turn { (config : Config) (n : ℕ) → IsOf config kept.old → IfOk result (λ next. turn_of next ≡ turn (within config kept.old.session (keeps kept.old) n self.old).rest) }
-        ensures asks { (config : Config) (n : ℕ) → IfOk result (λ next. is_ask next ≡ true → within config kept.old.session (keeps kept.old) n self.new ≡ within config kept.old.session (keeps kept.old) n self.old) }
+        ensures turn { (config : Config) (n : ℕ) → IsOf config state.old → IfOk result (λ next. turn_of next ≡ turn (within config state.old.session (keeps state.old) n self.old).rest) }
+        ensures asks { (config : Config) (n : ℕ) → IfOk result (λ next. is_ask next ≡ true → within config state.old.session (keeps state.old) n self.new ≡ within config state.old.session (keeps state.old) n self.old) }
         ensures sound { IfOk result (λ next. is_ask next ≡ true → IsSound self.new) }
         ensures waits { IfOk result (λ next. is_ask next ≡ true → waits self.new.work ≡ true) }
         ensures room { IfOk result (λ next. is_ask next ≡ true → HasLimitRoom self.new.work) }
@@ -93,11 +92,11 @@ impl UnderWay {
         ensures reading { self.new.reading ≡ self.old.reading }
         ensures limits { (s : Keeps) → limits_under s self.new ≡ limits_under s self.old }
         ensures memory { OnErr result (self.old.may_lose ≡ true) }
-        ensures keeps { keeps kept.new ≡ keeps kept.old }
-        ensures named { IsNamed kept.old kept.new }
-        ensures fits { HaveRoom kept.old.transaction → HaveRoom kept.new.transaction }
+        ensures keeps { keeps state.new ≡ keeps state.old }
+        ensures named { IsNamed state.old state.new }
+        ensures fits { HaveRoom state.old.transaction → HaveRoom state.new.transaction }
     {
-        match self.work.next(&self.line, &mut kept.transaction)? {
+        match self.work.next(&self.line, &mut state.transaction)? {
             Turn::Ask { to, request } => {
                 self.work.make_room()?;
                 Ok(Turn::Ask { to, request })
@@ -105,4 +104,21 @@ impl UnderWay {
             turn => Ok(turn),
         }
     }
+}
+
+/// Whether a reply may have settled something: no out of memory is told after it.
+fn is_settling(reply: &Reply) -> bool
+    ensures { result ≡ settles reply.now }
+{
+    matches!(
+        reply,
+        Reply::Refused(_)
+            | Reply::Begun
+            | Reply::Written { .. }
+            | Reply::SingleDone { .. }
+            | Reply::Committed { .. }
+            | Reply::AbortedBy { .. }
+            | Reply::Gone
+            | Reply::Ended
+    )
 }

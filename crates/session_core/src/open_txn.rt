@@ -5,7 +5,7 @@ ghost use Rattle.txn_data.specs.declared.config.Config.{Config};
 ghost use Rattle.txn_data.specs.declared.tablet_limit.TabletLimit.{TabletLimit};
 ghost use Rattle.txn_types.specs.Session.{Keeps, after_write as written_after, after_end as ended_after, after_read as read_after, opened_after, next_meta};
 ghost use Rattle.own_writes.specs.OwnWrites.{HasRoom};
-ghost use Rattle.session_core.specs.Opened.{opened, opened_if, written, limits_held};
+ghost use Rattle.session_core.specs.OpenTxn.{opened, opened_if, written, limits_held};
 ghost use Rattle.session_core.specs.Lines.{writes_line};
 
 use hybrid_time::{HybridTime, limit};
@@ -15,12 +15,12 @@ use txn_types::{Command, Meta, Op, Place, TabletLimit, Told, ToldRefusal};
 
 /// The open transaction.
 #[derive(Drop)]
-pub(crate) struct Opened {
+pub(crate) struct OpenTxn {
     pub(crate) meta: Meta,
     /// The time at which it reads, and the end of its window.
     pub(crate) r: HybridTime,
     pub(crate) g: HybridTime,
-    pub(crate) own: OwnWrites,
+    pub(crate) own_writes: OwnWrites,
     /// The local limits that its reads fixed.
     pub(crate) limits: Vec<TabletLimit>,
     pub(crate) has_read: bool,
@@ -36,7 +36,7 @@ pub(crate) fn begun(
     skew_us: u64,
     reading: Option<u64>,
     told: &Told,
-) -> Option<Opened>
+) -> Option<OpenTxn>
     requires range { (micros : ℕ) → reading ≡ Some micros → micros ≤ 4000000000000000 }
     requires skew { skew_us ≤ 10000000 }
     ensures fresh { written result ≡ 0 }
@@ -48,11 +48,11 @@ pub(crate) fn begun(
     };
     let window = limit(reading, skew_us);
     let g = if *at < window { window } else { *at };
-    Some(Opened {
+    Some(OpenTxn {
         meta,
         r: *at,
         g,
-        own: OwnWrites::new(alloc),
+        own_writes: OwnWrites::new(alloc),
         limits: Vec::new(alloc),
         has_read: false,
         in_doubt: false,
@@ -61,12 +61,12 @@ pub(crate) fn begun(
 
 /// What is left of the open transaction once a command is told. `limits` are those of a read, as they stand now.
 pub(crate) fn after_line(
-    transaction: Opened,
+    transaction: OpenTxn,
     line: Command,
     limits: Option<Vec<TabletLimit>>,
     told: &Told,
-) -> Option<Opened>
-    requires room { writes_line line ≡ true → HasRoom transaction.own }
+) -> Option<OpenTxn>
+    requires room { writes_line line ≡ true → HasRoom transaction.own_writes }
     requires few { length (opened transaction).writes < 2 ^ 32 }
     ensures more { written result ≤ length (opened transaction).writes + 1 }
     ensures value { (config : Config) (i : ℕ) (s : Keeps) (reading : Option ℕ) → opened_if result ≡ opened_after config i s line reading (limits_held limits (opened transaction).limits) told.now (Some (opened transaction)) }
@@ -80,15 +80,15 @@ pub(crate) fn after_line(
     }
 }
 
-fn after_write(mut transaction: Opened, place: Place, op: Op, told: &Told) -> Option<Opened>
-    requires room { HasRoom transaction.own }
+fn after_write(mut transaction: OpenTxn, place: Place, op: Op, told: &Told) -> Option<OpenTxn>
+    requires room { HasRoom transaction.own_writes }
     requires few { length (opened transaction).writes < 2 ^ 32 }
     ensures value { opened_if result ≡ written_after (opened transaction) place op told.now }
     ensures more { written result ≤ length (opened transaction).writes + 1 }
 {
     match told {
         Told::Written { .. } => {
-            transaction.own.push(place, op);
+            transaction.own_writes.push(place, op);
             Some(transaction)
         }
         Told::Refused(
@@ -100,7 +100,7 @@ fn after_write(mut transaction: Opened, place: Place, op: Op, told: &Told) -> Op
     }
 }
 
-fn after_end(mut transaction: Opened, told: &Told) -> Option<Opened>
+fn after_end(mut transaction: OpenTxn, told: &Told) -> Option<OpenTxn>
     ensures value { opened_if result ≡ ended_after (opened transaction) told.now }
     ensures more { written result ≤ length (opened transaction).writes + 1 }
 {
@@ -115,7 +115,7 @@ fn after_end(mut transaction: Opened, told: &Told) -> Option<Opened>
     }
 }
 
-fn after_read(mut transaction: Opened, limits: Option<Vec<TabletLimit>>, told: &Told) -> Opened
+fn after_read(mut transaction: OpenTxn, limits: Option<Vec<TabletLimit>>, told: &Told) -> OpenTxn
     ensures value { Some (opened result) ≡ read_after (opened transaction) (limits_held limits (opened transaction).limits) told.now }
     ensures more { length (opened result).writes ≤ length (opened transaction).writes + 1 }
 {

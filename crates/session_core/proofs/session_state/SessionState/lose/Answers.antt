@@ -1,7 +1,7 @@
 use Rattle.std.proofs.Common.{refl}
-use Rattle.session_core.specs.Kept.{keeps}
+use Rattle.session_core.specs.SessionState.{keeps}
 use Rattle.session_core.proofs.Lost.{lost_keeps}
-use Rattle.session_core.proofs.kept.Kept.lose.Goals as goal
+use Rattle.session_core.proofs.session_state.SessionState.lose.Goals as goal
 
 pub returns-clause-keeps : goal.returns-clause-keeps
 returns-clause-keeps c = λ config.

@@ -3,7 +3,7 @@ use Rattle.txn_types.specs.Program.{heard}
 use Rattle.txn_types.specs.Run.{limits_of, is_settling}
 use Rattle.session_core.specs.Mover.{within}
 use Rattle.session_core.proofs.Movers.{on_ok, same_gone_on, settled_and, unsettled_and}
-use Rattle.session_core.proofs.under_way.UnderWay.hear.Goals as goal
+use Rattle.session_core.proofs.command_in_flight.CommandInFlight.hear.Goals as goal
 
 pub returns-then-is_settling-clause-mover : goal.returns-then-is_settling-clause-mover
 returns-then-is_settling-clause-mover c = λ config i s n.
