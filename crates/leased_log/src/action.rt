@@ -86,7 +86,7 @@ fn framed(
     ensures own { IfOk result (λ made. made.1 ≡ own) }
     ensures records { OnOk result (AllByRecursion IsRecord (lease_records lease ++ option_to_list own)) }
 {
-    let mut records = Vec::new(alloc);
+    let mut records = Vec::with_capacity(alloc, 2)?;
     if let Some(until) = lease {
         records.push(LogRecord::Lease { until })?;
     }

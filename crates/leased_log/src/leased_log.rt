@@ -193,11 +193,12 @@ impl<L: LogStore> LeasedLog<L> {
         }
     }
 
-    /// The records that the log holds. Nothing changes but the counts of the store. Where the load fails, that is an action
+    /// The records that the log holds. Nothing changes but the counts of the store. If the load fails, that is an action
     /// of its own, and the actor is down.
     pub fn load(&mut self) -> Result<Vec<LogRecord>, LoadFault>
         requires { self.old.actions < 2 ^ 62 }
         ensures found { IfOk result (λ records. Holds self.old.held records.items) }
+        ensures held { self.new.held ≡ self.old.held }
         ensures loaded { OnOk result (Rose self.old.loads self.new.loads) }
         ensures same { OnOk result (IsSame self.old self.new) }
         ensures memory { IsErrOf result LoadFault.Memory → IsSame self.old self.new }
@@ -213,6 +214,7 @@ impl<L: LogStore> LeasedLog<L> {
     fn load_records(&mut self) -> Result<Vec<LogRecord>, LoadFault>
         requires { self.old.actions < 2 ^ 62 }
         ensures found { IfOk result (λ records. Holds self.old.held records.items) }
+        ensures held { self.new.held ≡ self.old.held }
         ensures loaded { OnOk result (Rose self.old.loads self.new.loads) }
         ensures same { OnOk result (IsSame self.old self.new) }
         ensures memory { IsErrOf result LoadFault.Memory → IsSame self.old self.new }
@@ -237,6 +239,7 @@ impl<L: LogStore> LeasedLog<L> {
     /// an append that failed. It takes no memory.
     pub fn restart(&mut self, records: &[LogRecord]) -> bool
         requires { self.old.actions < 2 ^ 62 }
+        ensures held { self.new.held ≡ self.old.held }
         ensures starts { StartsFrom self.old self.new result records.now }
         ensures restarts { Restarts self.old self.new result records.now }
     {

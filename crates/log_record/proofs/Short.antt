@@ -1,5 +1,5 @@
--- How many bytes a spelling has at most.
-use Rattle.std.proofs.Common.{◌≡◌, ℕ, ◌*◌, ◌/◌, ◌%◌, ◌^◌, ◌≤◌, true, ◌&&◌, leb, IsTrue, List, [], ◌∷◌, ◌++◌, length, Option, Some, None, refl, arith}
+-- How many bytes a spelling has, and at most.
+use Rattle.std.proofs.Common.{◌≡◌, ℕ, ◌+◌, ◌*◌, ◌/◌, ◌%◌, ◌^◌, ◌≤◌, true, ◌&&◌, leb, IsTrue, List, [], ◌∷◌, ◌++◌, length, Some, None, refl, arith}
 use Rattle.std.specs.List.{flat_map, list_all}
 use Rattle.std.proofs.lemmas.Bool.{and_parts, leb-true}
 use Rattle.std.proofs.lemmas.List.{length-append}
@@ -26,6 +26,9 @@ len_id x = omega (arith, length-append (u64_spelling (x / 2 ^ 64)) (u64_spelling
 
 len_isolation : (i : Isolation) → length (isolation_spelling i) ≡ 1
 len_isolation Snapshot = refl
+
+pub bytes_len : (bytes : List ℕ) → 4 + length bytes ≡ length (bytes_spelling bytes)
+bytes_len bytes = omega (arith, length-append (u32_spelling (length bytes)) bytes, len_u32 (length bytes))
 
 len_bytes : (bytes : List ℕ) → are_bytes bytes ≡ true → length (bytes_spelling bytes) ≤ 65540
 len_bytes bytes good =
@@ -54,10 +57,6 @@ len_numbers : (ns : List ℕ) → length (flat_map u32_spelling ns) ≡ 4 * leng
 len_numbers [] = refl
 len_numbers (n ∷ ns) = omega (arith, len_u32 n, len_numbers ns, length-append (u32_spelling n) (flat_map u32_spelling ns))
 
-len_by : (by : Option ℕ) → length (by_spelling by) ≤ 17
-len_by None = omega arith
-len_by (Some by) = omega (arith, len_id by)
-
 len_meta : (meta : Meta) → length (meta_spelling meta) ≡ 25
 len_meta meta =
     omega (
@@ -71,33 +70,41 @@ len_meta meta =
       length-append (isolation_spelling meta.isolation) (u32_spelling meta.priority),
     )
 
--- a time, a path and what is done there
-len_placed : (at : ℕ) (path : Parts) (op : Op) → (is_path path && is_op op) ≡ true → length (u64_spelling at ++ (path_spelling path ++ op_spelling op)) ≤ 393250
-len_placed at path op good =
-    let both = and_parts (is_path path) (is_op op) good in
-    omega (arith, len_u64 at, len_path path both.0, len_op op both.1, length-append (u64_spelling at) (path_spelling path ++ op_spelling op), length-append (path_spelling path) (op_spelling op))
+len_placed : (at : ℕ) (path : Parts) (op : Op) → length (u64_spelling at ++ (path_spelling path ++ op_spelling op)) ≡ 8 + length (path_spelling path) + length (op_spelling op)
+len_placed at path op = omega (arith, len_u64 at, length-append (u64_spelling at) (path_spelling path ++ op_spelling op), length-append (path_spelling path) (op_spelling op))
 
-pub spelling_short : (r : LogRecord) → IsTrue (has_spelling r) → length (spelling r) ≤ 393280
-spelling_short (Lease until) has = omega (arith, len_u64 until)
-spelling_short (Write meta number at path op) has =
+-- how many bytes each has
+abbrev pub len_of : LogRecord → ℕ
+len_of (Lease until) = 9
+len_of (Write meta number at path op) = 38 + length (path_spelling path) + length (op_spelling op)
+len_of (Apply x at) = 25
+len_of (Clean x) = 17
+len_of (Single x at path op) = 25 + length (path_spelling path) + length (op_spelling op)
+len_of (Begin x isolation priority) = 22
+len_of (Commit x at tablets) = 29 + 4 * length tablets
+len_of (Abort x None) = 18
+len_of (Abort x (Some by)) = 34
+len_of (Forget x) = 17
+
+pub spelling_len : (r : LogRecord) → length (spelling r) ≡ len_of r
+spelling_len (Lease until) = omega (arith, len_u64 until)
+spelling_len (Write meta number at path op) =
     omega (
       arith,
       len_meta meta,
       len_u32 number,
-      len_placed at path op has,
+      len_placed at path op,
       length-append (meta_spelling meta) (u32_spelling number ++ (u64_spelling at ++ (path_spelling path ++ op_spelling op))),
       length-append (u32_spelling number) (u64_spelling at ++ (path_spelling path ++ op_spelling op)),
     )
-spelling_short (Apply x at) has = omega (arith, len_id x, len_u64 at, length-append (id_spelling x) (u64_spelling at))
-spelling_short (Clean x) has = omega (arith, len_id x)
-spelling_short (Single x at path op) has = omega (arith, len_id x, len_placed at path op has, length-append (id_spelling x) (u64_spelling at ++ (path_spelling path ++ op_spelling op)))
-spelling_short (Begin x isolation priority) has =
+spelling_len (Apply x at) = omega (arith, len_id x, len_u64 at, length-append (id_spelling x) (u64_spelling at))
+spelling_len (Clean x) = omega (arith, len_id x)
+spelling_len (Single x at path op) = omega (arith, len_id x, len_placed at path op, length-append (id_spelling x) (u64_spelling at ++ (path_spelling path ++ op_spelling op)))
+spelling_len (Begin x isolation priority) =
     omega (arith, len_id x, len_isolation isolation, len_u32 priority, length-append (id_spelling x) (isolation_spelling isolation ++ u32_spelling priority), length-append (isolation_spelling isolation) (u32_spelling priority))
-spelling_short (Commit x at tablets) has =
-    let few : length tablets ≤ 64 = leb-true _ _ has in
+spelling_len (Commit x at tablets) =
     omega (
       arith,
-      few,
       len_id x,
       len_u64 at,
       len_u32 (length tablets),
@@ -106,5 +113,30 @@ spelling_short (Commit x at tablets) has =
       length-append (u64_spelling at) (tablets_spelling tablets),
       length-append (u32_spelling (length tablets)) (flat_map u32_spelling tablets),
     )
-spelling_short (Abort x by) has = omega (arith, len_id x, len_by by, length-append (id_spelling x) (by_spelling by))
-spelling_short (Forget x) has = omega (arith, len_id x)
+spelling_len (Abort x None) = omega (arith, len_id x, length-append (id_spelling x) (by_spelling None))
+spelling_len (Abort x (Some by)) = omega (arith, len_id x, len_id by, length-append (id_spelling x) (by_spelling (Some by)))
+spelling_len (Forget x) = omega (arith, len_id x)
+
+-- ---- at most
+
+placed_short : (path : Parts) (op : Op) → (is_path path && is_op op) ≡ true → length (path_spelling path) + length (op_spelling op) ≤ 393242
+placed_short path op good =
+    let both = and_parts (is_path path) (is_op op) good in
+    omega (arith, len_path path both.0, len_op op both.1)
+
+len_short : (r : LogRecord) → IsTrue (has_spelling r) → len_of r ≤ 393280
+len_short (Lease until) has = omega arith
+len_short (Write meta number at path op) has = omega (arith, placed_short path op has)
+len_short (Apply x at) has = omega arith
+len_short (Clean x) has = omega arith
+len_short (Single x at path op) has = omega (arith, placed_short path op has)
+len_short (Begin x isolation priority) has = omega arith
+len_short (Commit x at tablets) has =
+    let few : length tablets ≤ 64 = leb-true _ _ has in
+    omega (arith, few)
+len_short (Abort x None) has = omega arith
+len_short (Abort x (Some by)) has = omega arith
+len_short (Forget x) has = omega arith
+
+pub spelling_short : (r : LogRecord) → IsTrue (has_spelling r) → length (spelling r) ≤ 393280
+spelling_short r has = omega (arith, spelling_len r, len_short r has)

@@ -1,12 +1,13 @@
 //! The records of a log as bytes.
 //!
-//! The contract is exact: `encode` appends the spelling of `specs/Spelling.antt`; `decode` answers the record that its
+//! The contract is exact: `encode` appends the spelling of `specs/Spelling.antt`, and `encoded_len` is its length; `decode` answers the record that its
 //! bytes spell, or the first fault that reading them from the left meets, by `specs/Reading.antt`. Spelling and reading
 //! are tied by the laws here: what is spelled is read, what is read is spelled so, no spelling begins another, a refusal
 //! is met before all that follows it, and no spelling has more than 393,280 bytes.
 #![tactic(auto)]
 
 mod encode;
+mod encoded_len;
 mod fields;
 mod kind;
 mod laws;

@@ -22,7 +22,7 @@ pub struct OwnWrites {
     alloc: Global,
     writes: Vec<Accepted>,
     tablets: IndexSet<u32>,
-    /// The first `indexed` writes, by path. The others are put there before the next write or read.
+    /// The first `indexed` writes, by path. A read puts the others there first.
     by_path: MapVersions,
     indexed: usize,
     ghost in_order: { tablets.keys ≡ tablets_used [] (all_accepted writes.items) },
@@ -54,12 +54,11 @@ impl OwnWrites {
         self.writes.len()
     }
 
-    /// Makes room for one more, and puts the others in by their paths.
+    /// Makes room for one more.
     pub fn make_room(&mut self) -> Result<(), Memory>
         ensures same { writes self.new ≡ writes self.old }
         ensures room { OnOk result (HasRoom self.new) }
     {
-        self.index()?;
         self.writes.reserve(1)?;
         self.tablets.reserve(1)
     }

@@ -12,17 +12,17 @@ use Rattle.txn_types.specs.Program.{turn, turn_with, with_reading}
 use Rattle.txn_types.specs.Run.{Mover, mover_after, limits_after}
 use Rattle.txn_types.specs.Session.{Keeps, keeps_after}
 use Rattle.session_core.specs.Core.{Answered, Went}
-use Rattle.session_core.specs.Kept.{IsOf, IsNamed}
+use Rattle.session_core.specs.SessionState.{IsOf, IsNamed}
 use Rattle.session_core.specs.Mover.{between, within}
 use Rattle.session_core.specs.Turn.{is_wanting}
-use Rattle.session_core.specs.UnderWay.{limits_under}
-use Rattle.session_core.specs.declared.kept.Kept.{Kept}
+use Rattle.session_core.specs.CommandInFlight.{limits_under}
+use Rattle.session_core.specs.declared.session_state.SessionState.{SessionState}
 use Rattle.session_core.specs.declared.turn.Turn.{Turn as Made}
 use Rattle.session_core.specs.declared.turn.Turn.TheVariants as made
-use Rattle.session_core.specs.declared.under_way.UnderWay.{UnderWay}
+use Rattle.session_core.specs.declared.command_in_flight.CommandInFlight.{CommandInFlight}
 use Rattle.session_core.proofs.Programs.{with_none, turn_none}
 
-pub same_of : (config : Config) (old new : Kept) → IsNamed old new → IsOf config old → IsOf config new
+pub same_of : (config : Config) (old new : SessionState) → IsNamed old new → IsOf config old → IsOf config new
 same_of config old new named is = record { status = named.status ∙ is.status ∙ ap (λ j. j % config.status) (sym named.session); skew = named.skew ∙ is.skew }
 
 -- a call that takes no reading
@@ -45,7 +45,7 @@ answered_given config a m after reading (Ok (made.Tell t)) e asks w = (w.0 ∙ e
 answered_given config a m after reading (Err err) e asks w = w
 
 -- what is told after a reply that was heard in vain
-pub lost_within : (config : Config) (i : ℕ) (s : Keeps) (n k h : ℕ) (u v : UnderWay) (told : Told) (from : Actor) (r : Reply) → v.line ≡ u.line → v.reading ≡ u.reading → limits_under s v ≡ limits_after (limits_under s u) from r
+pub lost_within : (config : Config) (i : ℕ) (s : Keeps) (n k h : ℕ) (u v : CommandInFlight) (told : Told) (from : Actor) (r : Reply) → v.line ≡ u.line → v.reading ≡ u.reading → limits_under s v ≡ limits_after (limits_under s u) from r
     → mover_after config (Session i) (within config i s n v) None (event.Tell k told)
     ≡ mover_after config (Session i) (mover_after config (Session i) (within config i s n u) None (event.Hear from r)) None (event.Tell h told)
 lost_within config i s n k h u v told from r two three four =

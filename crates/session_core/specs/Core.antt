@@ -1,6 +1,7 @@
 -- A session as a mover of the tables, and what a call makes of it.
 use Rattle.std.specs.Prelude.{◌≡◌, ℕ, Bool, true, false, Option, Some, None, Result, Ok, Err, is_none}
 use Rattle.txn_data.specs.declared.actor.Actor.{Actor}
+use Rattle.txn_data.specs.declared.actor.Actor.TheVariants.{Session}
 use Rattle.txn_data.specs.declared.config.Config.{Config}
 use Rattle.txn_data.specs.declared.event.Event.TheVariants as event
 use Rattle.txn_data.specs.declared.told.Told.{Told}
@@ -9,18 +10,39 @@ use Rattle.txn_data.specs.declared.told_refusal.ToldRefusal.TheVariants as told_
 use Rattle.txn_types.specs.Program.{Turn, Reading, Ask, Tell, turn, turn_with}
 use Rattle.txn_types.specs.Lists.{or_else}
 use Rattle.txn_types.specs.Run.{Mover, mover_after}
-use Rattle.session_core.specs.Kept.{keeps}
+use Rattle.session_core.specs.SessionState as state
 use Rattle.session_core.specs.Mover.{mover_on}
 use Rattle.session_core.specs.Turn.{turn_of, lists}
 use Rattle.session_core.specs.Work.{waits, is_reading, is_read}
 use Rattle.session_core.specs.declared.session_core.SessionCore.{SessionCore}
 use Rattle.session_core.specs.declared.turn.Turn.{Turn as Made}
 use Rattle.session_core.specs.declared.turn.Turn.TheVariants as made
-use Rattle.session_core.specs.declared.under_way.UnderWay.{UnderWay}
+use Rattle.session_core.specs.declared.command_in_flight.CommandInFlight.{CommandInFlight}
 
 -- the mover that a session is
 unfoldable pub mover : Config → SessionCore → Mover
-mover config c = mover_on config c.kept.session (keeps c.kept) c.commands c.under_way
+mover config c = mover_on config c.state.session (state.keeps c.state) c.commands c.in_flight
+
+-- its number, its node, and how many commands it began
+abbrev pub number_of : SessionCore → ℕ
+number_of c = c.state.session
+
+abbrev pub node_of : SessionCore → ℕ
+node_of c = c.node
+
+abbrev pub commands_of : SessionCore → ℕ
+commands_of c = c.commands
+
+abbrev pub session_of : SessionCore → Actor
+session_of c = Session (number_of c)
+
+-- a session of this cluster, which gives it its status tablet and the skew
+abbrev pub IsOf : Config → SessionCore → Type 0
+IsOf config c = state.IsOf config c.state
+
+-- it keeps its number, its status tablet and the skew
+abbrev pub IsNamed : SessionCore → SessionCore → Type 0
+IsNamed old new = state.IsNamed old.state new.state
 
 -- the mover after the entry that a turn makes, which has this reading
 abbrev pub turned : Config → Actor → Mover → Option ℕ → Turn Told → Mover
@@ -48,23 +70,23 @@ abbrev pub Went : {E : Type 0} → Config → Actor → Mover → Option ℕ →
 Went config a m reading after (Ok t) = (turn_of t ≡ turn m.rest) × (after ≡ went config a m reading (turn_of t))
 Went config a m reading after (Err e) = (m.may_lose ≡ true) × (after ≡ gave_up config a m)
 
--- no command is under way
+-- no command is in flight
 abbrev pub is_idle : SessionCore → Bool
-is_idle c = is_none c.under_way
+is_idle c = is_none c.in_flight
 
 -- one is, and it wants a reading, waits for a reply, or is a read
-abbrev pub of_work : (UnderWay → Bool) → Option UnderWay → Bool
+abbrev pub of_work : (CommandInFlight → Bool) → Option CommandInFlight → Bool
 of_work test None = false
 of_work test (Some u) = test u
 
 abbrev pub wants_reading : SessionCore → Bool
-wants_reading c = of_work (λ u. is_reading u.work) c.under_way
+wants_reading c = of_work (λ u. is_reading u.work) c.in_flight
 
 abbrev pub awaits_reply : SessionCore → Bool
-awaits_reply c = of_work (λ u. waits u.work) c.under_way
+awaits_reply c = of_work (λ u. waits u.work) c.in_flight
 
 abbrev pub reads : SessionCore → Bool
-reads c = of_work (λ u. is_read u.work) c.under_way
+reads c = of_work (λ u. is_read u.work) c.in_flight
 
 -- what may be called next, after this turn and after this answer
 abbrev pub Stands : SessionCore → Made → Type 0

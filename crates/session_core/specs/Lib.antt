@@ -1,8 +1,8 @@
-pub mod Opened
-pub mod Kept
+pub mod OpenTxn
+pub mod SessionState
 pub mod Lines
 pub mod Turn
 pub mod Work
-pub mod UnderWay
+pub mod CommandInFlight
 pub mod Mover
 pub mod Core

@@ -5,14 +5,14 @@ use Rattle.txn_types.specs.TxnProgram.{lost}
 use Rattle.txn_types.specs.Session.{Keeps}
 use Rattle.txn_types.specs.Run.{Mover, limits_of}
 use Rattle.session_core.specs.Work.{work_rest, limits_now}
-use Rattle.session_core.specs.declared.under_way.UnderWay.{UnderWay}
+use Rattle.session_core.specs.declared.command_in_flight.CommandInFlight.{CommandInFlight}
 
 -- between two commands
 abbrev pub between : Keeps → ℕ → Mover
 between s commands = record { keeps = s; commands = commands; line = None; rest = lost; reading = None; limits = []; may_lose = true }
 
 -- within one
-abbrev pub within : Config → ℕ → Keeps → ℕ → UnderWay → Mover
+abbrev pub within : Config → ℕ → Keeps → ℕ → CommandInFlight → Mover
 within config i s commands u = record {
   keeps = s;
   commands = commands;
@@ -23,6 +23,6 @@ within config i s commands u = record {
   may_lose = u.may_lose;
 }
 
-abbrev pub mover_on : Config → ℕ → Keeps → ℕ → Option UnderWay → Mover
+abbrev pub mover_on : Config → ℕ → Keeps → ℕ → Option CommandInFlight → Mover
 mover_on config i s commands None = between s commands
 mover_on config i s commands (Some u) = within config i s commands u

@@ -5,16 +5,12 @@
 //! command, and comes only where a mover may be told it.
 #![tactic(auto)]
 
-mod ending;
-mod hearing;
-mod kept;
-mod naming;
-mod opened;
+mod command_in_flight;
+mod open_txn;
 mod session_core;
+mod session_state;
 mod starting;
-mod telling;
 mod turn;
-mod under_way;
 mod work;
 
 pub use session_core::SessionCore;

@@ -1,16 +1,16 @@
 //! One session.
-ghost use Rattle.std.specs.Prelude.{◌≡◌, ℕ, ◌≤◌, ◌<◌, ◌+◌, true, false, Some, None, is_none, IsOk, IfOk};
+ghost use Rattle.std.specs.Prelude.{◌≡◌, ℕ, ◌≤◌, ◌<◌, ◌+◌, ◌%◌, true, false, Some, None, is_some, is_none, IsOk, IfOk};
 ghost use Rattle.session_core.specs.Lines.{has_few_places, is_listed, writes_line};
-ghost use Rattle.session_core.specs.Opened.{written, HaveRoom};
+ghost use Rattle.session_core.specs.OpenTxn.{written, HaveRoom};
 ghost use Rattle.session_core.specs.Turn.{is_wanting};
-ghost use Rattle.session_core.specs.UnderWay.{busy, IsSound, FitsIn};
+ghost use Rattle.session_core.specs.CommandInFlight.{busy, IsSound, FitsIn};
 ghost use Rattle.session_core.specs.Work.{is_reading};
-ghost use Rattle.session_core.specs.declared.under_way.UnderWay.{UnderWay};
+ghost use Rattle.session_core.specs.declared.command_in_flight.CommandInFlight.{CommandInFlight};
 
-use crate::kept::Kept;
+use crate::session_state::SessionState;
 use crate::starting::timed_work;
 use crate::turn::Turn;
-use crate::under_way::UnderWay;
+use crate::command_in_flight::CommandInFlight;
 use crate::work::Work;
 use docdb_base::Memory;
 use hybrid_time::{HybridTime, at_least};
@@ -21,14 +21,14 @@ use txn_types::{Actor, Command, Reply, Told, ToldRefusal};
 #[derive(Drop)]
 pub struct SessionCore {
     node: u32,
-    kept: Kept,
+    state: SessionState,
     commands: u64,
-    under_way: Option<UnderWay>,
+    in_flight: Option<CommandInFlight>,
     ghost many: { commands ≤ 4000000001 },
-    ghost serials: { kept.serial + busy under_way ≤ commands },
-    ghost writes: { written kept.transaction + busy under_way ≤ commands },
-    ghost sound: { (u : UnderWay) → under_way ≡ Some u → IsSound u },
-    ghost fitting: { (u : UnderWay) → under_way ≡ Some u → FitsIn kept.transaction u },
+    ghost serials: { state.serial + busy in_flight ≤ commands },
+    ghost writes: { written state.transaction + busy in_flight ≤ commands },
+    ghost sound: { (u : CommandInFlight) → in_flight ≡ Some u → IsSound u },
+    ghost fitting: { (u : CommandInFlight) → in_flight ≡ Some u → FitsIn state.transaction u },
 }
 
 #[tactic(auto, unfolding(crate::specs::Core::mover))]
@@ -36,9 +36,10 @@ impl SessionCore {
     ghost use Rattle.txn_data.specs.declared.config.Config.{Config};
     ghost use Rattle.txn_data.specs.declared.event.Event.TheVariants.{Start, Tell, Hear};
     ghost use Rattle.txn_types.specs.Run.{idle, mover_after};
-    ghost use Rattle.session_core.specs.Kept.{keeps, IsOf, IsNamed, who};
+    ghost use Rattle.session_core.specs.SessionState.{keeps};
     ghost use Rattle.session_core.specs.Mover.{within};
-    ghost use Rattle.session_core.specs.Core.{mover, is_idle, wants_reading, awaits_reply, reads, Went, Answered, StandsAfter};
+    ghost use Rattle.session_core.specs.Core.{mover, number_of, node_of, session_of, commands_of, IsOf, IsNamed};
+    ghost use Rattle.session_core.specs.Core.{is_idle, wants_reading, awaits_reply, reads, Went, Answered, StandsAfter};
 
     /// A session that starts: its number, its node, the status tablet of its transactions, and the most by which clocks
     /// differ, in microseconds. It takes no memory.
@@ -51,12 +52,13 @@ impl SessionCore {
     ) -> Result<SessionCore, Memory>
         requires { skew_us ≤ 10000000 }
         ensures mover { (config : Config) → IfOk result (λ core. mover config core ≡ idle) }
-        ensures named { IfOk result (λ core. (core.kept.session ≡ session) × (core.node ≡ node) × (core.kept.status ≡ status) × (core.kept.skew_us ≡ skew_us)) }
+        ensures named { IfOk result (λ core. (number_of core ≡ session) × (node_of core ≡ node)) }
+        ensures of { (config : Config) → status ≡ session % config.status → skew_us ≡ config.skew_us → IfOk result (λ core. IsOf config core) }
         ensures stands { IfOk result (λ core. is_idle core ≡ true) }
-        ensures commands { IfOk result (λ core. core.commands ≡ 0) }
+        ensures commands { IfOk result (λ core. commands_of core ≡ 0) }
         ensures room { IsOk result }
     {
-        let kept = Kept {
+        let state = SessionState {
             alloc,
             session,
             status,
@@ -67,32 +69,39 @@ impl SessionCore {
         };
         Ok(SessionCore {
             node,
-            kept,
+            state,
             commands: 0,
-            under_way: None,
+            in_flight: None,
         })
     }
 
     /// The node whose readings it wants.
     pub fn node(&self) -> u32
-        ensures { result ≡ self.now.node }
+        ensures { result ≡ node_of self.now }
     {
         self.node
     }
 
     /// How many commands it began.
     pub fn commands(&self) -> u64
-        ensures { result ≡ self.now.commands }
+        ensures { result ≡ commands_of self.now }
     {
         self.commands
     }
 
-    /// Whether a read is under way.
+    /// Whether a transaction is open. It takes no memory.
+    pub fn is_open(&self) -> bool
+        ensures { (config : Config) → result ≡ is_some (mover config self.now).keeps.opened }
+    {
+        self.state.transaction.is_some()
+    }
+
+    /// Whether a read is in flight.
     pub fn reads(&self) -> bool
         ensures { result ≡ reads self.now }
     {
-        match &self.under_way {
-            Some(under) => matches!(under.work, Work::Read(..)),
+        match &self.in_flight {
+            Some(in_flight) => matches!(in_flight.work, Work::Read(..)),
             None => false,
         }
     }
@@ -101,19 +110,19 @@ impl SessionCore {
     /// at most sixteen places.
     pub fn start(&mut self, command: &Command) -> Result<Turn, Memory>
         requires idle { is_idle self.old ≡ true }
-        requires many { self.old.commands < 4000000001 }
+        requires many { commands_of self.old < 4000000001 }
         requires places { has_few_places command.now ≡ true }
-        ensures turn { (config : Config) → IsOf config self.old.kept → Answered config (who self.old.kept) (mover_after config (who self.old.kept) (mover config self.old) None (Start (self.old.commands + 1) command.now)) None (mover config self.new) result }
+        ensures turn { (config : Config) → IsOf config self.old → Answered config (session_of self.old) (mover_after config (session_of self.old) (mover config self.old) None (Start (commands_of self.old + 1) command.now)) None (mover config self.new) result }
         ensures stands { StandsAfter self.new result }
-        ensures named { IsNamed self.old.kept self.new.kept }
-        ensures commands { self.new.commands ≡ self.old.commands + 1 }
-        ensures node { self.new.node ≡ self.old.node }
+        ensures named { IsNamed self.old self.new }
+        ensures commands { commands_of self.new ≡ commands_of self.old + 1 }
+        ensures node { node_of self.new ≡ node_of self.old }
     {
         self.commands += 1;
-        match UnderWay::start(&mut self.kept, command) {
-            Ok(under) => self.go_on(under, None),
+        match CommandInFlight::start(&mut self.state, command) {
+            Ok(in_flight) => self.go_on(in_flight, None),
             Err(memory) => {
-                self.kept.lose(command);
+                self.state.lose(command);
                 Err(memory)
             }
         }
@@ -122,30 +131,30 @@ impl SessionCore {
     /// Goes on with the reading that it wanted, in microseconds, and tells what comes next.
     pub fn given(&mut self, reading: u64) -> Result<Turn, Memory>
         requires { wants_reading self.old ≡ true }
-        ensures turn { (config : Config) → IsOf config self.old.kept → Answered config (who self.old.kept) (mover config self.old) (Some reading) (mover config self.new) result }
+        ensures turn { (config : Config) → IsOf config self.old → Answered config (session_of self.old) (mover config self.old) (Some reading) (mover config self.new) result }
         ensures stands { StandsAfter self.new result }
-        ensures named { IsNamed self.old.kept self.new.kept }
-        ensures commands { self.new.commands ≡ self.old.commands }
-        ensures node { self.new.node ≡ self.old.node }
+        ensures named { IsNamed self.old self.new }
+        ensures commands { commands_of self.new ≡ commands_of self.old }
+        ensures node { node_of self.new ≡ node_of self.old }
     {
-        let Some(mut under) = self.under_way.take() else {
+        let Some(mut in_flight) = self.in_flight.take() else {
             unreachable!();
         };
-        let now = match at_least(self.kept.last, HybridTime::ZERO, reading) {
+        let now = match at_least(self.state.last, HybridTime::ZERO, reading) {
             Ok(now) => now,
             Err(_) => {
-                let actor = Actor::Session(self.kept.session);
+                let actor = Actor::Session(self.state.session);
                 let told = Told::Refused(ToldRefusal::ClockRange { actor, reading });
-                return Ok(self.tell(under, told));
+                return Ok(self.tell(in_flight, told));
             }
         };
-        match timed_work(&self.kept, &under.line, reading, now) {
+        match timed_work(&self.state, &in_flight.line, reading, now) {
             Ok(work) => {
-                under.work = work;
-                self.go_on(under, Some(reading))
+                in_flight.work = work;
+                self.go_on(in_flight, Some(reading))
             }
             Err(memory) => {
-                self.tell(under, Told::Refused(ToldRefusal::Memory));
+                self.tell(in_flight, Told::Refused(ToldRefusal::Memory));
                 Err(memory)
             }
         }
@@ -156,79 +165,79 @@ impl SessionCore {
     pub fn hear(&mut self, from: Actor, reply: &Reply) -> Result<Turn, Memory>
         requires asked { awaits_reply self.old ≡ true }
         requires listed { is_listed reply.now ≡ true → reads self.old ≡ true }
-        ensures turn { (config : Config) → IsOf config self.old.kept → Answered config (who self.old.kept) (mover_after config (who self.old.kept) (mover config self.old) None (Hear from reply.now)) None (mover config self.new) result }
+        ensures turn { (config : Config) → IsOf config self.old → Answered config (session_of self.old) (mover_after config (session_of self.old) (mover config self.old) None (Hear from reply.now)) None (mover config self.new) result }
         ensures stands { StandsAfter self.new result }
-        ensures named { IsNamed self.old.kept self.new.kept }
-        ensures commands { self.new.commands ≡ self.old.commands }
-        ensures node { self.new.node ≡ self.old.node }
+        ensures named { IsNamed self.old self.new }
+        ensures commands { commands_of self.new ≡ commands_of self.old }
+        ensures node { node_of self.new ≡ node_of self.old }
     {
-        let Some(mut under) = self.under_way.take() else {
+        let Some(mut in_flight) = self.in_flight.take() else {
             unreachable!();
         };
-        match under.hear(from, reply) {
-            Ok(()) => self.go_on(under, None),
+        match in_flight.hear(from, reply) {
+            Ok(()) => self.go_on(in_flight, None),
             Err(memory) => {
-                self.tell(under, Told::Refused(ToldRefusal::Memory));
+                self.tell(in_flight, Told::Refused(ToldRefusal::Memory));
                 Err(memory)
             }
         }
     }
 
     // What comes next in a command. Where it asks, its first request has this reading.
-    fn go_on(&mut self, mut under: UnderWay, reading: Option<u64>) -> Result<Turn, Memory>
+    fn go_on(&mut self, mut in_flight: CommandInFlight, reading: Option<u64>) -> Result<Turn, Memory>
         requires idle { is_idle self.old ≡ true }
-        requires serial { self.old.kept.serial < self.old.commands }
-        requires writes { written self.old.kept.transaction < self.old.commands }
-        requires sound { IsSound under }
-        requires closed { is_reading under.work ≡ true → is_none self.old.kept.transaction ≡ true }
-        requires room { writes_line under.line ≡ true → HaveRoom self.old.kept.transaction }
+        requires serial { self.old.state.serial < self.old.commands }
+        requires writes { written self.old.state.transaction < self.old.commands }
+        requires sound { IsSound in_flight }
+        requires closed { is_reading in_flight.work ≡ true → is_none self.old.state.transaction ≡ true }
+        requires room { writes_line in_flight.line ≡ true → HaveRoom self.old.state.transaction }
         requires range { (micros : ℕ) → reading ≡ Some micros → micros ≤ 4000000000000000 }
-        ensures turn { (config : Config) → IsOf config self.old.kept → Went config (who self.old.kept) (within config self.old.kept.session (keeps self.old.kept) self.old.commands under) reading (mover config self.new) result }
+        ensures turn { (config : Config) → IsOf config self.old → Went config (session_of self.old) (within config self.old.state.session (keeps self.old.state) self.old.commands in_flight) reading (mover config self.new) result }
         ensures stands { StandsAfter self.new result }
-        ensures wants { is_reading under.work ≡ false → IfOk result (λ next. is_wanting next ≡ false) }
-        ensures named { IsNamed self.old.kept self.new.kept }
-        ensures commands { self.new.commands ≡ self.old.commands }
-        ensures node { self.new.node ≡ self.old.node }
+        ensures wants { is_reading in_flight.work ≡ false → IfOk result (λ next. is_wanting next ≡ false) }
+        ensures named { IsNamed self.old self.new }
+        ensures commands { commands_of self.new ≡ commands_of self.old }
+        ensures node { node_of self.new ≡ node_of self.old }
     {
-        match under.next(&mut self.kept) {
-            Ok(Turn::Tell(told)) => Ok(self.tell(under, told)),
+        match in_flight.next(&mut self.state) {
+            Ok(Turn::Tell(told)) => Ok(self.tell(in_flight, told)),
             Ok(Turn::Reading) => {
-                self.under_way = Some(under);
+                self.in_flight = Some(in_flight);
                 Ok(Turn::Reading)
             }
             Ok(Turn::Ask { to, request }) => {
-                under.reading = under.reading.or(reading);
-                self.under_way = Some(under);
+                in_flight.reading = in_flight.reading.or(reading);
+                self.in_flight = Some(in_flight);
                 Ok(Turn::Ask { to, request })
             }
             Err(memory) => {
-                self.tell(under, Told::Refused(ToldRefusal::Memory));
+                self.tell(in_flight, Told::Refused(ToldRefusal::Memory));
                 Err(memory)
             }
         }
     }
 
     // The command is told this.
-    fn tell(&mut self, under: UnderWay, told: Told) -> Turn
+    fn tell(&mut self, in_flight: CommandInFlight, told: Told) -> Turn
         requires idle { is_idle self.old ≡ true }
-        requires serial { self.old.kept.serial < self.old.commands }
-        requires writes { written self.old.kept.transaction < self.old.commands }
-        requires range { (micros : ℕ) → under.reading ≡ Some micros → micros ≤ 4000000000000000 }
-        requires room { writes_line under.line ≡ true → HaveRoom self.old.kept.transaction }
+        requires serial { self.old.state.serial < self.old.commands }
+        requires writes { written self.old.state.transaction < self.old.commands }
+        requires range { (micros : ℕ) → in_flight.reading ≡ Some micros → micros ≤ 4000000000000000 }
+        requires room { writes_line in_flight.line ≡ true → HaveRoom self.old.state.transaction }
         ensures told { result ≡ Turn.Tell told }
-        ensures mover { (config : Config) (n : ℕ) → IsOf config self.old.kept → mover config self.new ≡ mover_after config (who self.old.kept) (within config self.old.kept.session (keeps self.old.kept) self.old.commands under) None (Tell n told) }
+        ensures mover { (config : Config) (n : ℕ) → IsOf config self.old → mover config self.new ≡ mover_after config (session_of self.old) (within config self.old.state.session (keeps self.old.state) self.old.commands in_flight) None (Tell n told) }
         ensures idle { is_idle self.new ≡ true }
-        ensures named { IsNamed self.old.kept self.new.kept }
-        ensures commands { self.new.commands ≡ self.old.commands }
-        ensures node { self.new.node ≡ self.old.node }
+        ensures named { IsNamed self.old self.new }
+        ensures commands { commands_of self.new ≡ commands_of self.old }
+        ensures node { node_of self.new ≡ node_of self.old }
     {
-        let UnderWay {
+        let CommandInFlight {
             line,
             work,
             reading,
             may_lose: _,
-        } = under;
-        self.kept.tell(line, reading, work.into_limits(), &told);
+        } = in_flight;
+        self.state.tell(line, reading, work.into_limits(), &told);
         Turn::Tell(told)
     }
 }

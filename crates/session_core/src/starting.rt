@@ -8,13 +8,13 @@ ghost use Rattle.hybrid_time.specs.Time.{least_time};
 ghost use Rattle.txn_types.specs.Program.{with_reading};
 ghost use Rattle.txn_types.specs.Session.{Keeps, command_program, begin_program, write_command, commit_command, abort_command, read_command, read_at, has_writes, if_closed};
 ghost use Rattle.txn_types.specs.TxnProgram.{txn_program};
-ghost use Rattle.session_core.specs.Opened.{opened, opened_if, written};
-ghost use Rattle.session_core.specs.Kept.{keeps, IsOf};
+ghost use Rattle.session_core.specs.OpenTxn.{opened, opened_if, written};
+ghost use Rattle.session_core.specs.SessionState.{keeps, IsOf};
 ghost use Rattle.session_core.specs.Lines.{clocked, has_few_places};
 ghost use Rattle.session_core.specs.Work.{work_rest, timed, is_reading, limits_now};
 
-use crate::kept::Kept;
-use crate::opened::Opened;
+use crate::session_state::SessionState;
+use crate::open_txn::OpenTxn;
 use crate::work::Work;
 use docdb_base::{Memory, TryCopy};
 use hybrid_time::{HybridTime, limit};
@@ -44,7 +44,7 @@ fn step_work(alloc: Global, step: TxnStep) -> Result<Work, Memory>
 /// A write inside the transaction that is open.
 pub(crate) fn write_work(
     alloc: Global,
-    transaction: &Option<Opened>,
+    transaction: &Option<OpenTxn>,
     last: HybridTime,
     place: &Place,
     op: Op,
@@ -62,7 +62,7 @@ pub(crate) fn write_work(
     }
     let step = TxnStep::Write {
         meta: open.meta,
-        number: open.own.len() as u32,
+        number: open.own_writes.len() as u32,
         place: place.try_copy(alloc)?,
         op,
         read: open.r,
@@ -74,7 +74,7 @@ pub(crate) fn write_work(
 /// A commit of the transaction that is open.
 pub(crate) fn commit_work(
     alloc: Global,
-    transaction: &Option<Opened>,
+    transaction: &Option<OpenTxn>,
     last: HybridTime,
 ) -> Result<Work, Memory>
     ensures program { (config : Config) (i : ℕ) (s : Keeps) (line : Command) → s.opened ≡ opened_if transaction.now → s.last ≡ last → IfOk result (λ work. work_rest config i s line work ≡ commit_command s s.opened) }
@@ -87,13 +87,13 @@ pub(crate) fn commit_work(
     let step = TxnStep::Commit {
         meta: open.meta,
         floor: last,
-        tablets: open.own.tablets()?,
+        tablets: open.own_writes.tablets()?,
     };
     step_work(alloc, step)
 }
 
 /// An abort of the transaction that is open.
-pub(crate) fn abort_work(alloc: Global, transaction: &Option<Opened>) -> Result<Work, Memory>
+pub(crate) fn abort_work(alloc: Global, transaction: &Option<OpenTxn>) -> Result<Work, Memory>
     ensures program { (config : Config) (i : ℕ) (s : Keeps) (line : Command) → s.opened ≡ opened_if transaction.now → IfOk result (λ work. work_rest config i s line work ≡ abort_command s.opened) }
     ensures limits { (s : Keeps) → IfOk result (λ work. limits_now (limits_of s.opened) work ≡ limits_of s.opened) }
     ensures asks { IfOk result (λ work. is_reading work ≡ false) }
@@ -107,7 +107,7 @@ pub(crate) fn abort_work(alloc: Global, transaction: &Option<Opened>) -> Result<
 /// A single write, where no transaction is open.
 pub(crate) fn single_work(
     alloc: Global,
-    transaction: &Option<Opened>,
+    transaction: &Option<OpenTxn>,
     meta: Meta,
     last: HybridTime,
     place: &Place,
@@ -133,7 +133,7 @@ pub(crate) fn single_work(
 #[tactic(auto, unfolding(txn_types::specs::Program::then_do))]
 pub(crate) fn read_work(
     alloc: Global,
-    transaction: &Option<Opened>,
+    transaction: &Option<OpenTxn>,
     kind: ReadKind,
     strict: bool,
     places: &[Place],
@@ -175,25 +175,25 @@ fn copied(alloc: Global, limits: &[TabletLimit]) -> Result<Vec<TabletLimit>, Mem
 }
 
 // A read inside a transaction must not restart once the transaction wrote or read.
-fn is_strict(strict: bool, transaction: &Opened) -> bool
+fn is_strict(strict: bool, transaction: &OpenTxn) -> bool
     ensures { result ≡ (strict || has_writes (opened transaction.now).writes || transaction.now.has_read) }
 {
-    strict || transaction.own.len() > 0 || transaction.has_read
+    strict || transaction.own_writes.len() > 0 || transaction.has_read
 }
 
 /// What is done for a command that starts.
-pub(crate) fn work_of(kept: &Kept, command: &Command) -> Result<Work, Memory>
-    requires serial { kept.now.serial < 2 ^ 63 }
-    requires written { written kept.now.transaction < 2 ^ 32 }
+pub(crate) fn work_of(state: &SessionState, command: &Command) -> Result<Work, Memory>
+    requires serial { state.now.serial < 2 ^ 63 }
+    requires written { written state.now.transaction < 2 ^ 32 }
     requires places { has_few_places command.now ≡ true }
-    ensures program { (config : Config) → IsOf config kept.now → IfOk result (λ work. work_rest config kept.now.session (keeps kept.now) command.now work ≡ command_program config kept.now.session (keeps kept.now) command.now) }
-    ensures limits { IfOk result (λ work. limits_now (limits_of (keeps kept.now).opened) work ≡ limits_of (keeps kept.now).opened) }
-    ensures closed { IfOk result (λ work. is_reading work ≡ true → is_none kept.now.transaction ≡ true) }
+    ensures program { (config : Config) → IsOf config state.now → IfOk result (λ work. work_rest config state.now.session (keeps state.now) command.now work ≡ command_program config state.now.session (keeps state.now) command.now) }
+    ensures limits { IfOk result (λ work. limits_now (limits_of (keeps state.now).opened) work ≡ limits_of (keeps state.now).opened) }
+    ensures closed { IfOk result (λ work. is_reading work ≡ true → is_none state.now.transaction ≡ true) }
     ensures wanting { IfOk result (λ work. is_reading work ≡ true → clocked command.now ≡ true) }
 {
-    let alloc = kept.alloc;
-    let last = kept.last;
-    let transaction = &kept.transaction;
+    let alloc = state.alloc;
+    let last = state.last;
+    let transaction = &state.transaction;
     match command {
         Command::Begin { .. } => Ok(begin_work(transaction)),
         Command::Put { place, value } => {
@@ -220,12 +220,12 @@ pub(crate) fn work_of(kept: &Kept, command: &Command) -> Result<Work, Memory>
             value,
             priority,
         } => {
-            let meta = kept.next_meta(*priority);
+            let meta = state.next_meta(*priority);
             let op = Op::Put(value.try_copy(alloc)?);
             single_work(alloc, transaction, meta, last, place, op)
         }
         Command::SingleDel { place, priority } => {
-            let meta = kept.next_meta(*priority);
+            let meta = state.next_meta(*priority);
             single_work(alloc, transaction, meta, last, place, Op::Delete)
         }
         Command::Restart { actor } => Ok(Work::Restart(*actor)),
@@ -235,7 +235,7 @@ pub(crate) fn work_of(kept: &Kept, command: &Command) -> Result<Work, Memory>
 }
 
 // A begin, which takes a reading first where no transaction is open.
-fn begin_work(transaction: &Option<Opened>) -> Work
+fn begin_work(transaction: &Option<OpenTxn>) -> Work
     ensures program { (config : Config) (i : ℕ) (s : Keeps) (priority : ℕ) → s.opened ≡ opened_if transaction.now → work_rest config i s (Command.Begin priority) result ≡ if_closed s.opened (begin_program config i s priority) }
     ensures limits { (s : Keeps) → limits_now (limits_of s.opened) result ≡ limits_of s.opened }
     ensures closed { is_reading result ≡ true → is_none transaction.now ≡ true }
@@ -249,32 +249,32 @@ fn begin_work(transaction: &Option<Opened>) -> Work
 /// What is done with a reading that was wanted, at the session's new time, where no transaction is open.
 #[tactic(auto, unfolding(txn_types::specs::Program::then_do))]
 pub(crate) fn timed_work(
-    kept: &Kept,
+    state: &SessionState,
     line: &Command,
     reading: u64,
     now: HybridTime,
 ) -> Result<Work, Memory>
-    requires serial { kept.now.serial < 2 ^ 63 }
-    requires closed { is_none kept.now.transaction ≡ true }
+    requires serial { state.now.serial < 2 ^ 63 }
+    requires closed { is_none state.now.transaction ≡ true }
     requires clocked { clocked line.now ≡ true }
     requires places { has_few_places line.now ≡ true }
     requires range { reading ≤ 4000000000000000 }
-    requires time { least_time kept.now.last 0 reading ≡ Ok now }
-    ensures program { (config : Config) → IsOf config kept.now → IfOk result (λ work. work_rest config kept.now.session (keeps kept.now) line.now work ≡ with_reading (timed config kept.now.session (keeps kept.now) line.now) (Some reading)) }
-    ensures limits { IfOk result (λ work. limits_now (limits_of (keeps kept.now).opened) work ≡ limits_of (keeps kept.now).opened) }
+    requires time { least_time state.now.last 0 reading ≡ Ok now }
+    ensures program { (config : Config) → IsOf config state.now → IfOk result (λ work. work_rest config state.now.session (keeps state.now) line.now work ≡ with_reading (timed config state.now.session (keeps state.now) line.now) (Some reading)) }
+    ensures limits { IfOk result (λ work. limits_now (limits_of (keeps state.now).opened) work ≡ limits_of (keeps state.now).opened) }
     ensures asks { IfOk result (λ work. is_reading work ≡ false) }
 {
     match line {
         Command::Read { strict, places } => {
-            alone_work(kept, ReadKind::Get, *strict, places.items(), reading, now)
+            alone_work(state, ReadKind::Get, *strict, places.items(), reading, now)
         }
         Command::Scan { strict, place } => {
             let places = slice::from_ref(place);
-            alone_work(kept, ReadKind::Scan, *strict, places, reading, now)
+            alone_work(state, ReadKind::Scan, *strict, places, reading, now)
         }
         Command::Begin { priority } => {
-            let meta = kept.next_meta(*priority);
-            step_work(kept.alloc, TxnStep::Begin { meta, r: now })
+            let meta = state.next_meta(*priority);
+            step_work(state.alloc, TxnStep::Begin { meta, r: now })
         }
         _ => unreachable!(),
     }
@@ -283,7 +283,7 @@ pub(crate) fn timed_work(
 // A read outside a transaction, at the session's new time.
 #[tactic(auto, unfolding(txn_types::specs::Program::then_do))]
 fn alone_work(
-    kept: &Kept,
+    state: &SessionState,
     kind: ReadKind,
     strict: bool,
     places: &[Place],
@@ -292,14 +292,14 @@ fn alone_work(
 ) -> Result<Work, Memory>
     requires places { length places.now ≤ 16 }
     requires range { reading ≤ 4000000000000000 }
-    requires closed { is_none kept.now.transaction ≡ true }
-    ensures places { kind ≡ ReadKind.Get → (config : Config) → IsOf config kept.now → IfOk result (λ work. work_rest config kept.now.session (keeps kept.now) (Command.Read strict places.now) work ≡ read_at config ReadKind.Get strict places.now reading now) }
-    ensures beneath { (place : Place) → kind ≡ ReadKind.Scan → places.now ≡ place ∷ [] → (config : Config) → IsOf config kept.now → IfOk result (λ work. work_rest config kept.now.session (keeps kept.now) (Command.Scan strict place) work ≡ read_at config ReadKind.Scan strict (place ∷ []) reading now) }
-    ensures limits { IfOk result (λ work. limits_now (limits_of (keeps kept.now).opened) work ≡ limits_of (keeps kept.now).opened) }
+    requires closed { is_none state.now.transaction ≡ true }
+    ensures places { kind ≡ ReadKind.Get → (config : Config) → IsOf config state.now → IfOk result (λ work. work_rest config state.now.session (keeps state.now) (Command.Read strict places.now) work ≡ read_at config ReadKind.Get strict places.now reading now) }
+    ensures beneath { (place : Place) → kind ≡ ReadKind.Scan → places.now ≡ place ∷ [] → (config : Config) → IsOf config state.now → IfOk result (λ work. work_rest config state.now.session (keeps state.now) (Command.Scan strict place) work ≡ read_at config ReadKind.Scan strict (place ∷ []) reading now) }
+    ensures limits { IfOk result (λ work. limits_now (limits_of (keeps state.now).opened) work ≡ limits_of (keeps state.now).opened) }
     ensures asks { IfOk result (λ work. is_reading work ≡ false) }
 {
-    let alloc = kept.alloc;
-    let window = limit(reading, kept.skew_us);
+    let alloc = state.alloc;
+    let window = limit(reading, state.skew_us);
     let g = if now < window { window } else { now };
     let plan = ReadPlan::start(alloc, None, kind, places, now, g, strict, &[])?;
     Ok(Work::Read(plan, Vec::new(alloc)))

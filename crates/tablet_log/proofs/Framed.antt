@@ -1,10 +1,10 @@
 -- Frames: what begins with one, and that bytes are one list of them.
-use Rattle.std.proofs.Common.{◌≡◌, ℕ, ◌^◌, ◌<◌, ◌≤◌, IsTrue, List, [], ◌∷◌, ◌++◌, length, take, drop, Ok, Err, refl, sym, ap, ◌∙◌, append_assoc, arith, inl, inr}
+use Rattle.std.proofs.Common.{◌≡◌, ℕ, ◌+◌, ◌^◌, ◌<◌, ◌≤◌, IsTrue, List, [], ◌∷◌, ◌++◌, length, get_or, take, drop, Ok, Err, refl, sym, ap, ◌∙◌, append_assoc, arith, inl, inr}
 use Rattle.std.specs.List.{AllByRecursion}
 use Rattle.std.specs.Int.{w32, from_be_bytes}
 use Rattle.std.proofs.lemmas.Bool.{cases_lt}
 use Rattle.std.proofs.lemmas.Grind.{flat_map-append}
-use Rattle.std.proofs.lemmas.List.{get_or_past, take_at, drop_at, take-append-drop, length-append, append-nil, length-take, length-take-le, get_or-take}
+use Rattle.std.proofs.lemmas.List.{get_or_past, take_at, take_more, drop_at, take-append-drop, length-append, append-nil, length-take, length-take-le, get_or-take}
 use Rattle.std.proofs.lemmas.Nat.{be_bytes_4, from_be_bytes-to_be_bytes_4}
 use Rattle.log_record.specs.declared.log_record.LogRecord.{LogRecord}
 use Rattle.log_record.specs.declared.record_refusal.RecordRefusal.{RecordRefusal}
@@ -104,6 +104,16 @@ frame_some r more =
     omega (arith, four n, length-append (frame r) more, length-append (u32_spelling n) (spelling r))
 
 -- ---- a list of frames
+
+frame_len : (r : LogRecord) → length (frame r) ≡ 4 + length (spelling r)
+frame_len r = omega (arith, four (length (spelling r)), length-append (u32_spelling (length (spelling r))) (spelling r))
+
+pub frames_len_more : (rs : List LogRecord) (i : ℕ) (r : LogRecord) → i < length rs → r ≡ get_or rs i r → length (frames (take (i + 1) rs)) ≡ length (frames (take i rs)) + (4 + length (spelling r))
+frames_len_more rs i r lt is =
+    let more : take (i + 1) rs ≡ take i rs ++ r ∷ [] = take_more rs i r lt ∙ ap (λ x. take i rs ++ x ∷ []) (sym is) in
+    let joined : frames (take (i + 1) rs) ≡ frames (take i rs) ++ frame r =
+    ap frames more ∙ flat_map-append frame (take i rs) (r ∷ []) ∙ ap (λ (t : List ℕ). frames (take i rs) ++ t) (append-nil (frame r)) in
+    omega (arith, ap length joined, length-append (frames (take i rs)) (frame r), frame_len r)
 
 pub frames_more : (rs : List LogRecord) (r : LogRecord) (rest : List ℕ) → frames rs ++ (frame r ++ rest) ≡ frames (rs ++ r ∷ []) ++ rest
 frames_more rs r rest =

@@ -1,5 +1,5 @@
 //! The frames of records, and their append.
-ghost use Rattle.std.specs.Prelude.{◌≡◌, ◌≤◌, ◌⊎◌, ◌++◌, [], length, take, IfOk, OnOk, OnErr, IsErrOf, IsTrue};
+ghost use Rattle.std.specs.Prelude.{◌≡◌, ◌≤◌, ◌-◌, ◌^◌, ◌⊎◌, ◌++◌, [], length, min, take, IfOk, OnOk, OnErr, IsErrOf, IsTrue};
 ghost use Rattle.std.specs.List.{list_all};
 ghost use Rattle.docdb_outside.specs.Count.{Rose};
 ghost use Rattle.log_record.specs.Spelling.{has_spelling};
@@ -12,15 +12,26 @@ use log_record::{LogRecord, spellings_are_short};
 use std::alloc::Global;
 
 #[tactic(auto, unfolding(log_record::specs::Spelling::u32_spelling))]
-fn append_frame(alloc: Global, logged: &LogRecord, out: &mut Vec<u8>) -> Result<(), Memory>
+fn append_frame(logged: &LogRecord, out: &mut Vec<u8>) -> Result<(), Memory>
     requires { IsTrue (has_spelling logged.now) }
     ensures { OnOk result (out.new.items ≡ out.old.items ++ frame logged.now) }
 {
     spellings_are_short();
-    let mut payload = Vec::new(alloc);
-    logged.encode(&mut payload)?;
-    out.extend_from_slice(&(payload.len() as u32).to_be_bytes())?;
-    out.extend_from_slice(&payload)
+    out.extend_from_slice(&(logged.encoded_len() as u32).to_be_bytes())?;
+    logged.encode(out)
+}
+
+/// How many bytes the frames of these records have.
+fn frames_len(records: &[LogRecord]) -> usize
+    requires { IsTrue (list_all has_spelling records.now) }
+    ensures { result ≡ min (length (frames records.now)) (2 ^ 64 - 1) }
+{
+    spellings_are_short();
+    let mut len: usize = 0;
+    for logged in records {
+        len = len.saturating_add(4 + logged.encoded_len());
+    }
+    len
 }
 
 /// The frames of these records, as `append` hands them over.
@@ -28,9 +39,9 @@ pub fn frames(alloc: Global, records: &[LogRecord]) -> Result<Vec<u8>, Memory>
     requires { IsTrue (list_all has_spelling records.now) }
     ensures { IfOk result (λ bytes. bytes.items ≡ frames records.now) }
 {
-    let mut bytes = Vec::new(alloc);
+    let mut bytes = Vec::with_capacity(alloc, frames_len(records))?;
     for logged in records {
-        append_frame(alloc, logged, &mut bytes)?;
+        append_frame(logged, &mut bytes)?;
     }
     Ok(bytes)
 }

@@ -2,7 +2,7 @@ use Rattle.std.proofs.Common.{◌≡◌, Some, ap, ◌∙◌, subst}
 use Rattle.std.specs.Prelude.{IfOk}
 use Rattle.txn_data.specs.declared.told.Told.{Told}
 use Rattle.txn_types.specs.Program.{Program}
-use Rattle.session_core.specs.Opened.{opened, opened_if}
+use Rattle.session_core.specs.OpenTxn.{opened, opened_if}
 use Rattle.session_core.specs.Work.{work_rest}
 use Rattle.session_core.proofs.WriteCommand.{write_is}
 use Rattle.session_core.proofs.starting.write_work.Goals as goal

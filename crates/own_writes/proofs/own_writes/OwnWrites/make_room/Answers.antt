@@ -7,7 +7,7 @@ use Rattle.own_writes.proofs.own_writes.OwnWrites.make_room.Goals as goal
 
 pub invariant_of-self : goal.invariant_of-self
 invariant_of-self c =
-    let self = c.index.new.self in
+    let self = c.args.self.now in
     let same = sym c.reserve.ensures.items in
     let P : List Kept → Type 0 = λ items. self.tablets.keys ≡ tablets_used [] (all_accepted items) in
     let Q : List Kept → Type 0 = λ items. length items ≤ 2 ^ 32 in
@@ -16,7 +16,7 @@ invariant_of-self c =
 
 pub invariant_of-self-2 : goal.invariant_of-self-2
 invariant_of-self-2 c =
-    let self = c.index.new.self in
+    let self = c.args.self.now in
     let same = sym c.reserve.ensures.items in
     let P : List Kept → Type 0 = λ items. self.tablets.keys ≡ tablets_used [] (all_accepted items) in
     let Q : List Kept → Type 0 = λ items. length items ≤ 2 ^ 32 in

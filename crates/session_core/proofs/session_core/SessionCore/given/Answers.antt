@@ -9,12 +9,12 @@ use Rattle.txn_data.specs.declared.told_refusal.ToldRefusal.TheVariants as told_
 use Rattle.txn_types.specs.Program.{Program, Tell, turn, turn_with, with_reading}
 use Rattle.txn_types.specs.Run.{Mover, limits_of}
 use Rattle.session_core.specs.Core.{mover, turned, gave_up, Answered, Went, of_work}
-use Rattle.session_core.specs.Kept.{keeps, who}
+use Rattle.session_core.specs.SessionState.{keeps, who}
 use Rattle.session_core.specs.Mover.{within, mover_on}
 use Rattle.session_core.specs.Turn.{turn_of}
 use Rattle.session_core.specs.Work.{work_rest, limits_now, is_reading, takes_room}
 use Rattle.session_core.specs.declared.turn.Turn.{Turn as Made}
-use Rattle.session_core.specs.declared.under_way.UnderWay.{UnderWay}
+use Rattle.session_core.specs.declared.command_in_flight.CommandInFlight.{CommandInFlight}
 use Rattle.session_core.specs.declared.work.Work.{Work}
 use Rattle.session_core.specs.declared.work.Work.TheVariants as work
 use Rattle.session_core.proofs.Answering.{answered_given}
@@ -34,14 +34,14 @@ pub returns-in-Err-clause-turn : goal.returns-in-Err-clause-turn
 unfolding mover
 returns-in-Err-clause-turn c = λ config is.
     let core = c.args.self.now in
-    let i = core.kept.session in
-    let s = keeps core.kept in
+    let i = core.state.session in
+    let s = keeps core.state in
     let n = core.commands in
-    let a = who core.kept in
-    let u = c.in-Some.under in
+    let a = who core.state in
+    let u = c.in-Some.in_flight in
     let reading = c.args.reading in
-    let was : core.under_way ≡ Some u = sym c.take.ensures.value ∙ c.in-Some.is in
-    let W : Option UnderWay → Type 0 = λ o. of_work (λ (x : UnderWay). is_reading x.work) o ≡ true in
+    let was : core.in_flight ≡ Some u = sym c.take.ensures.value ∙ c.in-Some.is in
+    let W : Option CommandInFlight → Type 0 = λ o. of_work (λ (x : CommandInFlight). is_reading x.work) o ≡ true in
     let wants : is_reading u.work ≡ true = subst W was c.requires in
     let work_is = reading_is u.work wants in
     let clocks = (core.sound u was).wanting wants in
@@ -51,21 +51,21 @@ returns-in-Err-clause-turn c = λ config is.
     let after = mover config c.tell.new.self in
     let V : Work → Type 0 = λ w. Tell told ≡ turn_with (work_rest config i s u.line w) (Some reading) in
     let P : Made → Type 0 = λ t. (turn_of t ≡ turn_with (work_rest config i s u.line u.work) (Some reading)) × (after ≡ turned config a (within config i s n u) (Some reading) (turn_of t)) in
-    let S : Option UnderWay → Type 0 = λ o. let m : Mover = mover_on config i s n o in (turn_of c.tell.result ≡ turn_with m.rest (Some reading)) × (after ≡ turned config a m (Some reading) (turn_of c.tell.result)) in
+    let S : Option CommandInFlight → Type 0 = λ o. let m : Mover = mover_on config i s n o in (turn_of c.tell.result ≡ turn_with m.rest (Some reading)) × (after ≡ turned config a m (Some reading) (turn_of c.tell.result)) in
     subst S (sym was) (subst P (sym c.tell.ensures.told) (subst V (sym work_is) (timed_range config i s u.line reading why clocks range), c.tell.ensures.mover config n is))
 
 pub returns-in-Ok-timed_work-clause-turn : goal.returns-in-Ok-timed_work-clause-turn
 unfolding mover
 returns-in-Ok-timed_work-clause-turn c = λ config is.
     let core = c.args.self.now in
-    let i = core.kept.session in
-    let s = keeps core.kept in
+    let i = core.state.session in
+    let s = keeps core.state in
     let n = core.commands in
-    let a = who core.kept in
-    let u = c.in-Some.under in
+    let a = who core.state in
+    let u = c.in-Some.in_flight in
     let reading = c.args.reading in
-    let was : core.under_way ≡ Some u = sym c.take.ensures.value ∙ c.in-Some.is in
-    let W : Option UnderWay → Type 0 = λ o. of_work (λ (x : UnderWay). is_reading x.work) o ≡ true in
+    let was : core.in_flight ≡ Some u = sym c.take.ensures.value ∙ c.in-Some.is in
+    let W : Option CommandInFlight → Type 0 = λ o. of_work (λ (x : CommandInFlight). is_reading x.work) o ≡ true in
     let wants : is_reading u.work ≡ true = subst W was c.requires in
     let work_is = reading_is u.work wants in
     let clocks = (core.sound u was).wanting wants in
@@ -80,7 +80,7 @@ returns-in-Ok-timed_work-clause-turn c = λ config is.
     let limits : limits_now before w ≡ limits_now before u.work = done.limits ∙ ap (limits_now before) (sym work_is) in
     let R : Mover → Type 0 = λ x. Went config a x (Some reading) after c.go_on.result in
     let V : Work → Type 0 = λ x. turn (with_reading (work_rest config i s u.line x) (Some reading)) ≡ turn_with (work_rest config i s u.line x) (Some reading) in
-    let S : Option UnderWay → Type 0 = λ o. Answered config a (mover_on config i s n o) (Some reading) after c.go_on.result in
+    let S : Option CommandInFlight → Type 0 = λ o. Answered config a (mover_on config i s n o) (Some reading) after c.go_on.result in
     let gone = subst R (ap (λ p. f p (limits_now before w)) rest ∙ ap (λ l. f (with_reading (work_rest config i s u.line u.work) (Some reading)) l) limits) (c.go_on.ensures.turn config is) in
     subst S (sym was) (answered_given config a m after reading c.go_on.result (subst V (sym work_is) (timed_turn config i s u.line reading clocks)) (c.go_on.ensures.wants done.asks) gone)
 
@@ -88,17 +88,17 @@ pub returns-in-Err-timed_work-clause-turn : goal.returns-in-Err-timed_work-claus
 unfolding mover
 returns-in-Err-timed_work-clause-turn c = λ config is.
     let core = c.args.self.now in
-    let i = core.kept.session in
-    let s = keeps core.kept in
+    let i = core.state.session in
+    let s = keeps core.state in
     let n = core.commands in
-    let a = who core.kept in
-    let u = c.in-Some.under in
+    let a = who core.state in
+    let u = c.in-Some.in_flight in
     let reading = c.args.reading in
-    let was : core.under_way ≡ Some u = sym c.take.ensures.value ∙ c.in-Some.is in
-    let W : Option UnderWay → Type 0 = λ o. of_work (λ (x : UnderWay). is_reading x.work) o ≡ true in
+    let was : core.in_flight ≡ Some u = sym c.take.ensures.value ∙ c.in-Some.is in
+    let W : Option CommandInFlight → Type 0 = λ o. of_work (λ (x : CommandInFlight). is_reading x.work) o ≡ true in
     let wants : is_reading u.work ≡ true = subst W was c.requires in
     let work_is = reading_is u.work wants in
     let clocks = (core.sound u was).wanting wants in
     let after = mover config c.tell-in-Err-timed_work.new.self in
-    let S : Option UnderWay → Type 0 = λ o. let m : Mover = mover_on config i s n o in (m.may_lose ≡ true) × (after ≡ gave_up config a m) in
+    let S : Option CommandInFlight → Type 0 = λ o. let m : Mover = mover_on config i s n o in (m.may_lose ≡ true) × (after ≡ gave_up config a m) in
     subst S (sym was) (must_lose u.may_lose (takes_room u.work) (core.sound u was).settled (ap takes_room work_is), c.tell-in-Err-timed_work.ensures.mover config n is)
