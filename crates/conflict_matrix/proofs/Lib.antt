@@ -1,3 +1,4 @@
 pub mod Meeting
 pub mod Deciding
 pub mod Tables
+pub mod Walk

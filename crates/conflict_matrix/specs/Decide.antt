@@ -4,8 +4,8 @@ use Rattle.txn_data.specs.declared.found.Found.{Found}
 use Rattle.txn_data.specs.declared.fate_of.FateOf.{FateOf}
 use Rattle.txn_types.specs.Lists.{rising}
 use Rattle.txn_types.specs.Tablet.{first_fate, is_open, commit_time, first_of, greatest_above}
-use Rattle.conflict_matrix.specs.declared.decision.Decision.{Decision}
-use Rattle.conflict_matrix.specs.declared.decision.Decision.TheVariants.{Go, Conflict, Overlap}
+use Rattle.conflict_matrix.specs.declared.write_decision.WriteDecision.{WriteDecision}
+use Rattle.conflict_matrix.specs.declared.write_decision.WriteDecision.TheVariants.{Go, Conflict, Overlap}
 
 abbrev pub ids : List Found → List ℕ
 ids others = map (λ (f : Found). f.txn) others
@@ -25,7 +25,7 @@ overlap None newest others fates = None
 overlap (Some read) newest others fates = greatest_above read (option_to_list newest ++ fate_times fates (ids others))
 
 -- a conflict comes before an overlap
-abbrev pub decision : Option ℕ → Option ℕ → Decision
+abbrev pub decision : Option ℕ → Option ℕ → WriteDecision
 decision (Some other) at = Conflict other
 decision None (Some at) = Overlap at
 decision None None = Go

@@ -1,4 +1,5 @@
 pub mod Conflict
 pub mod Laws
 pub mod Decide
+pub mod Firsts
 pub mod Steps

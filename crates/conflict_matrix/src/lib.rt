@@ -5,15 +5,17 @@
 //! `specs/Decide.antt`: a conflict, else an overlap, else nothing.
 #![tactic(auto)]
 
-mod decision;
+mod first_fates;
 mod intent_at;
 mod kind;
 pub mod laws;
 #[cfg(test)]
 mod tests;
 mod write;
+mod write_decision;
 
-pub use decision::Decision;
+pub use first_fates::{FirstFates, commit_time};
 pub use intent_at::IntentAt;
 pub use kind::{Kind, conflicts};
 pub use write::{decide, intents_of};
+pub use write_decision::WriteDecision;

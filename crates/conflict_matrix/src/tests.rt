@@ -1,5 +1,5 @@
 //! Conflicts and decisions worked by hand. A text stands for the path of its parts between slashes.
-use crate::{Decision, Kind, conflicts, decide, intents_of};
+use crate::{Kind, WriteDecision, conflicts, decide, intents_of};
 use doc_path::Path;
 use hybrid_time::HybridTime;
 use std::alloc::Global;
@@ -82,14 +82,14 @@ fn optional_time(micros: Option<u64>) -> Result<Option<HybridTime>, Fail> {
     }
 }
 
-fn said(alloc: Global, decision: Decision) -> Result<String, Fail> {
+fn said(alloc: Global, decision: WriteDecision) -> Result<String, Fail> {
     Ok(match decision {
-        Decision::Go => format!(in alloc; "go")?,
-        Decision::Conflict { other } => {
+        WriteDecision::Go => format!(in alloc; "go")?,
+        WriteDecision::Conflict { other } => {
             let number = other.number;
             format!(in alloc; "conflict {number}")?
         }
-        Decision::Overlap { at } => {
+        WriteDecision::Overlap { at } => {
             let micros = at.micros();
             format!(in alloc; "overlap {micros}")?
         }

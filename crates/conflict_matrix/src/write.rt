@@ -1,13 +1,15 @@
 //! The intents of a write, and what it is answered.
-ghost use Rattle.std.specs.Prelude.{◌≡◌, ◌++◌, ◌∷◌, [], IfOk, OnOk};
-ghost use Rattle.txn_types.specs.Tablet.{first_fate as fate_in, is_open as stands_open, commit_time};
+ghost use Rattle.std.specs.Prelude.{◌≡◌, ◌++◌, ◌∷◌, [], true, IfOk, OnOk};
+ghost use Rattle.txn_types.specs.Tablet.{is_open as stands_open};
+ghost use Rattle.conflict_matrix.specs.Firsts.{OthersRise};
 ghost use Rattle.conflict_matrix.specs.Conflict.{intents_of as intents_on};
 ghost use Rattle.conflict_matrix.specs.Decide.{least_open as least_in, overlap, decision};
 ghost use Rattle.conflict_matrix.specs.Steps.{lesser as lesser_of, with_time as time_with};
 
-use crate::decision::Decision;
+use crate::first_fates::FirstFates;
 use crate::intent_at::IntentAt;
 use crate::kind::Kind;
+use crate::write_decision::WriteDecision;
 use doc_path::{Path, PathRefusal};
 use docdb_base::{Memory, TryCopy};
 use hybrid_time::HybridTime;
@@ -59,65 +61,42 @@ pub fn decide(
     fates: &Fates,
     read: Option<HybridTime>,
     newest: Option<HybridTime>,
-) -> Decision
+) -> WriteDecision
     ensures { result ≡ decision (least_in others.now fates.now) (overlap read newest others.now fates.now) }
 {
     if let Some(other) = least_open(others.items(), fates.items()) {
-        return Decision::Conflict { other };
+        return WriteDecision::Conflict { other };
     }
     match read {
-        None => Decision::Go,
+        None => WriteDecision::Go,
         Some(read) => match overlap_above(read, newest, others.items(), fates.items()) {
-            Some(at) => Decision::Overlap { at },
-            None => Decision::Go,
+            Some(at) => WriteDecision::Overlap { at },
+            None => WriteDecision::Go,
         },
     }
 }
 
-// The first fate of a transaction among those that are given.
-fn first_fate(fates: &[FateOf], txn: TxnId) -> Option<Fate>
-    ensures { result ≡ fate_in fates.now txn }
+// Whether a transaction of this fate has none, or the fate Pending.
+fn is_open(fate: Option<Fate>) -> bool
+    ensures { result ≡ stands_open fate }
 {
-    for of in fates {
-        if of.txn == txn {
-            return Some(of.fate);
-        }
-    }
-    None
+    matches!(fate, None | Some(Fate::Pending))
 }
 
-// The commit time that the first fate of a transaction names.
-fn fate_time(fates: &[FateOf], txn: TxnId) -> Option<HybridTime>
-    ensures { result ≡ commit_time (fate_in fates.now txn) }
+// Whether the ids of these transactions do not fall.
+fn rise(others: &[Found]) -> bool
+    ensures { result ≡ true → OthersRise others.now }
 {
-    match first_fate(fates, txn) {
-        Some(fate) => time_of(&fate),
-        None => None,
-    }
-}
-
-fn time_of(fate: &Fate) -> Option<HybridTime>
-    ensures { result ≡ commit_time (Some fate.now) }
-{
-    match fate {
-        Fate::Committed { at } => Some(*at),
-        _ => None,
-    }
-}
-
-// Whether a transaction has no fate, or the fate Pending.
-fn is_open(fates: &[FateOf], txn: TxnId) -> bool
-    ensures { result ≡ stands_open (fate_in fates.now txn) }
-{
-    matches!(first_fate(fates, txn), None | Some(Fate::Pending))
+    others.is_sorted_by_key(|other| other.txn)
 }
 
 fn least_open(others: &[Found], fates: &[FateOf]) -> Option<TxnId>
     ensures { result ≡ least_in others.now fates.now }
 {
+    let mut firsts = FirstFates::of(fates, rise(others));
     let mut least: Option<TxnId> = None;
     for other in others {
-        if is_open(fates, other.txn) {
+        if is_open(firsts.fate_of(other.txn)) {
             least = lesser(other.txn, least);
         }
     }
@@ -132,9 +111,10 @@ fn overlap_above(
 ) -> Option<HybridTime>
     ensures { result ≡ overlap (Some read) newest others.now fates.now }
 {
+    let mut firsts = FirstFates::of(fates, rise(others));
     let mut greatest = with_time(read, newest, None);
     for other in others {
-        greatest = with_time(read, fate_time(fates, other.txn), greatest);
+        greatest = with_time(read, firsts.time_of(other.txn), greatest);
     }
     greatest
 }

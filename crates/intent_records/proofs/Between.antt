@@ -7,14 +7,16 @@ use Rattle.std.specs.Ordering.{is_le, is_gt, is_eq, nat_cmp, ordering_then, orde
 use Rattle.std.specs.Str.{bytes_eq}
 use Rattle.std.proofs.lemmas.Bool.Decides.{nat_tests, same_from_decides}
 use Rattle.std.proofs.lemmas.Cmp.{tied_itself, nat_list_cmp_total}
+use Rattle.std.proofs.lemmas.List.Folds.{list_any-append}
 use Rattle.std.proofs.lemmas.Map.Lookups.{exact_bytes}
 use Rattle.std.proofs.lemmas.Slice.Eq.{bytes_eq-Decides}
 use Rattle.doc_path.specs.Path.{Parts, is_prefix, byte_order, path_order, order_then}
 use Rattle.txn_types.specs.Tablet.{same_path}
+use Rattle.intent_records.specs.declared.path_range.PathRange.{PathRange}
 use Rattle.intent_records.specs.declared.record_key.RecordKey.{RecordKey}
 use Rattle.intent_records.specs.KeyOrder.{byte_order-slice_cmp, path_order_total}
 use Rattle.intent_records.specs.Keys.{key_order}
-use Rattle.intent_records.specs.Search.{between, near, next_after, above_to}
+use Rattle.intent_records.specs.Search.{between, near, next_after, above_to, in_any}
 
 pub bytes_eq-order : (a b : List ℕ) → bytes_eq a b ≡ is_eq (byte_order a b)
 bytes_eq-order a b =
@@ -221,5 +223,33 @@ above_all (a ∷ p) (c ∷ q) some = by (is_prefix (c ∷ q) (a ∷ p)) (nat_lt 
     by true false z h = h refl refl
     by false y z h = refl
 
+or_false : (b : Bool) → (b || false) ≡ b
+or_false true = refl
+or_false false = refl
+
 pub is_eq-nat_cmp : (m n : ℕ) → is_eq (nat_cmp m n) ≡ nat_eq m n
 is_eq-nat_cmp m n = grind (arith, nat_tests)
+
+-- ---- the ranges of the related paths
+
+-- one more range, of a path above
+pub ranges-above : (path above end : Parts) (i : ℕ) (ranges : List PathRange) (range : PathRange) → 1 ≤ i → i ≤ length path → above ≡ take i path → end ≡ above ++ [] ∷ []
+    → range.first ≡ above → range.end ≡ end
+    → ((q : Parts) → in_any ranges q ≡ above_to i path q)
+    → (q : Parts) → in_any (ranges ++ range ∷ []) q ≡ above_to (i + 1) path q
+ranges-above path above end i ranges range some fits is to from ends so_far q =
+    list_any-append (λ (r : PathRange). between r.first r.end q) ranges (range ∷ [])
+    ∙ ap (λ b. b || (between range.first range.end q || false)) (so_far q)
+    ∙ ap (λ b. above_to i path q || b) (or_false (between range.first range.end q) ∙ ap (λ p. between p range.end q) from ∙ ap (λ e. between above e q) (ends ∙ to) ∙ between-next above q ∙ ap (λ p. same_path p q) is)
+    ∙ sym (above_more path q i some fits)
+
+-- and one of the path itself and those beneath it
+pub ranges-all : (path : Parts) (i : ℕ) (ranges : List PathRange) (range : PathRange) → 1 ≤ length path → i ≡ length path
+    → range.first ≡ path → range.end ≡ next_after path
+    → ((q : Parts) → in_any ranges q ≡ above_to i path q)
+    → (q : Parts) → in_any (ranges ++ range ∷ []) q ≡ near path q
+ranges-all path i ranges range some whole from ends so_far q =
+    list_any-append (λ (r : PathRange). between r.first r.end q) ranges (range ∷ [])
+    ∙ ap (λ b. b || (between range.first range.end q || false)) (so_far q ∙ ap (λ n. above_to n path q) whole)
+    ∙ ap (λ b. above_to (length path) path q || b) (or_false (between range.first range.end q) ∙ ap (λ p. between p range.end q) from ∙ ap (λ e. between path e q) ends ∙ between-after path q some)
+    ∙ above_all path q some

@@ -1,5 +1,5 @@
 -- What a search over the primary records finds, as a test over the writes that they stand for.
-use Rattle.std.proofs.Common.{◌≡◌, ℕ, ◌+◌, ◌<◌, ◌≤◌, Bool, true, false, ◌&&◌, ◌||◌, not, List, [], ◌∷◌, ◌++◌, Option, Some, None, length, refl, sym, ap, ◌∙◌, arith, inl, inr, nat_eq, nat_le, take, get_or, All}
+use Rattle.std.proofs.Common.{◌≡◌, ℕ, ◌+◌, ◌<◌, ◌≤◌, Bool, true, false, ◌&&◌, ◌||◌, not, List, [], ◌∷◌, Option, Some, None, length, refl, sym, ap, ◌∙◌, arith, inl, inr, nat_eq, nat_le, take, get_or, All}
 use Rattle.std.specs.Prelude.{filter, map, cond, slice_get}
 use Rattle.std.specs.List.{list_any}
 use Rattle.std.specs.BTreeMap.{get}
@@ -9,19 +9,20 @@ use Rattle.std.specs.declared.ops.Bound.TheVariants.{Included, Excluded}
 use Rattle.std.proofs.lemmas.List.Elements.{All-tail}
 use Rattle.std.proofs.lemmas.List.Folds.{list_any_at, list_any_more}
 use Rattle.std.proofs.lemmas.Map.Views.{All-found, btree_map_get_iff}
-use Rattle.doc_path.specs.Path.{Parts, is_prefix, related}
+use Rattle.doc_path.specs.Path.{Parts, related}
 use Rattle.txn_types.specs.Lists.{Member, has_number}
-use Rattle.txn_types.specs.Tablet.{Intent, is_of, txn_of, is_own, same_path, others_on}
+use Rattle.txn_types.specs.Tablet.{Intent, is_of, txn_of, is_own, others_on}
 use Rattle.conflict_matrix.specs.Conflict.{intents_of, any_meet}
 use Rattle.conflict_matrix.specs.Laws.{WritesMeetWhereRelated}
 use Rattle.intent_records.specs.declared.intents.Intents.{Intents}
+use Rattle.intent_records.specs.declared.path_range.PathRange.{PathRange}
 use Rattle.intent_records.specs.declared.primary_record.PrimaryRecord.{PrimaryRecord}
 use Rattle.intent_records.specs.declared.record_key.RecordKey.{RecordKey}
 use Rattle.intent_records.specs.Holds.{Holds, own, primary_of, record_at}
 use Rattle.intent_records.specs.KeyOrder.{key_order_total, key_order_exact}
 use Rattle.intent_records.specs.Keys.{key_order}
-use Rattle.intent_records.specs.Search.{hit, asks, between, some_parts, near, near_any, above_to, next_after, others_until, others_meeting}
-use Rattle.intent_records.proofs.Between.{same_path-itself, between-next, between-after, keys_between, above_none, above_more, above_all}
+use Rattle.intent_records.specs.Search.{hit, asks, between, some_parts, near, near_any, in_any, others_until, others_meeting}
+use Rattle.intent_records.proofs.Between.{same_path-itself, keys_between}
 use Rattle.intent_records.proofs.Writes.{own-member, own-place, record_at-some, is_of-txn, is_of-itself, any-member, member-any, list_any-same, has_number-filter}
 
 pub hit-or : (f g : Parts → Bool) (own_txn until : Option ℕ) (x : ℕ) (es : List (RecordKey × PrimaryRecord))
@@ -170,22 +171,6 @@ hit-others_until s ps holds own_txn paths until y =
 
 -- ---- a search in a part of the records
 
-pub hit-skip : (own_txn until : Option ℕ) (x : ℕ) (k : RecordKey) (r : PrimaryRecord) (rest es : List (RecordKey × PrimaryRecord)) (before : Bool)
-    → es ≡ (k, r) ∷ rest → asks own_txn until k.txn r.wrote ≡ false
-    → (before || hit (λ q. true) own_txn until x rest) ≡ (before || hit (λ q. true) own_txn until x es)
-hit-skip own_txn until x k r rest es before whole skipped =
-    ap (λ b. before || ((b && nat_eq k.txn x) || hit (λ q. true) own_txn until x rest)) (sym skipped)
-    ∙ ap (λ l. before || hit (λ q. true) own_txn until x l) (sym whole)
-
-pub hit-end : (own_txn until : Option ℕ) (x : ℕ) (es : List (RecordKey × PrimaryRecord)) (found all : Bool)
-    → es ≡ [] → (found || hit (λ q. true) own_txn until x es) ≡ all → found ≡ all
-hit-end own_txn until x es found all done h =
-    by found ∙ ap (λ l. found || hit (λ q. true) own_txn until x l) (sym done) ∙ h
-  where
-    by : (b : Bool) → b ≡ (b || false)
-    by true = refl
-    by false = refl
-
 pub hit-range : (first end : Parts) (a b : RecordKey) (own_txn until : Option ℕ) (x : ℕ) (part es : List (RecordKey × PrimaryRecord))
     → a ≡ record { path = first; txn = 0; position = 0 } → b ≡ record { path = end; txn = 0; position = 0 }
     → part ≡ entries_between key_order (Included a) (Excluded b) es
@@ -198,53 +183,39 @@ hit-range first end a b own_txn until x part es from to is =
     ∙ keys_between first end k)
     own_txn until x es
 
--- one more path above
-pub hit-above : (path above end : Parts) (i : ℕ) (own_txn until : Option ℕ) (x : ℕ) (es : List (RecordKey × PrimaryRecord)) (before found after : Bool)
-    → 1 ≤ i → i ≤ length path → above ≡ take i path → end ≡ above ++ [] ∷ []
-    → found ≡ (before || hit (above_to i path) own_txn until x es)
-    → after ≡ (found || hit (between above end) own_txn until x es)
-    → after ≡ (before || hit (above_to (i + 1) path) own_txn until x es)
-hit-above path above end i own_txn until x es before found after some fits is to so_far more =
-    more
-    ∙ ap (λ e. found || hit (between above e) own_txn until x es) to
-    ∙ ap (λ b. found || b) (hit-same (between above (above ++ [] ∷ [])) (same_path above) (between-next above) own_txn until x es)
-    ∙ ap (λ p. found || hit (same_path p) own_txn until x es) is
-    ∙ ap (λ b. b || hit (same_path (take i path)) own_txn until x es) so_far
-    ∙ or_assoc before (hit (above_to i path) own_txn until x es) (hit (same_path (take i path)) own_txn until x es)
-    ∙ ap (λ b. before || b) (sym (hit-or (above_to i path) (same_path (take i path)) own_txn until x es)
-    ∙ hit-same (λ q. above_to i path q || same_path (take i path) q) (above_to (i + 1) path) (λ q. sym (above_more path q i some fits)) own_txn until x es)
-  where
-    or_assoc : (a b c : Bool) → ((a || b) || c) ≡ (a || (b || c))
-    or_assoc true b c = refl
-    or_assoc false b c = refl
+-- one more of some sets of paths
+pub hit-some_more : {A : Type 0} (on : A → Parts → Bool) (xs : List A) (i : ℕ) (a : A) (own_txn until : Option ℕ) (x : ℕ) (es : List (RecordKey × PrimaryRecord)) → i < length xs → a ≡ get_or xs i a
+    → (hit (λ q. list_any (λ b. on b q) (take i xs)) own_txn until x es || hit (on a) own_txn until x es) ≡ hit (λ q. list_any (λ b. on b q) (take (i + 1) xs)) own_txn until x es
+hit-some_more on xs i a own_txn until x es within is =
+    sym (hit-or (λ q. list_any (λ b. on b q) (take i xs)) (on a) own_txn until x es)
+    ∙ hit-same (λ q. list_any (λ b. on b q) (take i xs) || on a q) (λ q. list_any (λ b. on b q) (take (i + 1) xs))
+    (λ q. ap (λ b. list_any (λ b. on b q) (take i xs) || on b q) is ∙ sym (list_any_more (λ b. on b q) xs i a within)) own_txn until x es
 
--- what lies beneath a path, after what is above it
-pub hit-beneath : (path end : Parts) (i : ℕ) (own_txn until : Option ℕ) (x : ℕ) (es : List (RecordKey × PrimaryRecord)) (before found after : Bool)
-    → 1 ≤ length path → i ≡ length path → end ≡ next_after path
-    → found ≡ (before || hit (above_to i path) own_txn until x es)
-    → after ≡ (found || hit (between path end) own_txn until x es)
-    → after ≡ (before || hit (near path) own_txn until x es)
-hit-beneath path end i own_txn until x es before found after some whole to so_far more =
-    more
-    ∙ ap (λ e. found || hit (between path e) own_txn until x es) to
-    ∙ ap (λ b. found || b) (hit-same (between path (next_after path)) (is_prefix path) (λ q. between-after path q some) own_txn until x es)
-    ∙ ap (λ b. b || hit (is_prefix path) own_txn until x es) (so_far ∙ ap (λ n. before || hit (above_to n path) own_txn until x es) whole)
-    ∙ or_assoc before (hit (above_to (length path) path) own_txn until x es) (hit (is_prefix path) own_txn until x es)
-    ∙ ap (λ b. before || b) (sym (hit-or (above_to (length path) path) (is_prefix path) own_txn until x es)
-    ∙ hit-same (λ q. above_to (length path) path q || is_prefix path q) (near path) (λ q. above_all path q some) own_txn until x es)
-  where
-    or_assoc : (a b c : Bool) → ((a || b) || c) ≡ (a || (b || c))
-    or_assoc true b c = refl
-    or_assoc false b c = refl
-
-pub hit-start : (path : Parts) (own_txn until : Option ℕ) (x : ℕ) (es : List (RecordKey × PrimaryRecord)) (before : Bool)
-    → before ≡ (before || hit (above_to 1 path) own_txn until x es)
-hit-start path own_txn until x es before =
-    by before ∙ ap (λ b. before || b) (sym (hit-none (above_to 1 path) (above_none path) own_txn until x es))
+-- nothing is found on no paths
+pub hit-start : (ranges : List PathRange) (own_txn until : Option ℕ) (x : ℕ) (es : List (RecordKey × PrimaryRecord)) (before : Bool)
+    → before ≡ (before || hit (in_any (take 0 ranges)) own_txn until x es)
+hit-start ranges own_txn until x es before =
+    by before ∙ ap (λ b. before || b) (sym (hit-none (in_any (take 0 ranges)) (λ q. refl) own_txn until x es))
   where
     by : (b : Bool) → b ≡ (b || false)
     by true = refl
     by false = refl
+
+-- one more of some ranges
+pub hit-range_more : (ranges : List PathRange) (i : ℕ) (range : PathRange) (own_txn until : Option ℕ) (x : ℕ) (es : List (RecordKey × PrimaryRecord)) (before found after : Bool)
+    → i < length ranges → range ≡ get_or ranges i range
+    → found ≡ (before || hit (in_any (take i ranges)) own_txn until x es)
+    → after ≡ (found || hit (between range.first range.end) own_txn until x es)
+    → after ≡ (before || hit (in_any (take (i + 1) ranges)) own_txn until x es)
+hit-range_more ranges i range own_txn until x es before found after within is so_far more =
+    more
+    ∙ ap (λ b. b || hit (between range.first range.end) own_txn until x es) so_far
+    ∙ or_assoc before (hit (in_any (take i ranges)) own_txn until x es) (hit (between range.first range.end) own_txn until x es)
+    ∙ ap (λ b. before || b) (hit-some_more (λ (r : PathRange). between r.first r.end) ranges i range own_txn until x es within is)
+  where
+    or_assoc : (a b c : Bool) → ((a || b) || c) ≡ (a || (b || c))
+    or_assoc true b c = refl
+    or_assoc false b c = refl
 
 -- one more of some paths
 pub hit-near_more : (paths : List Parts) (i : ℕ) (path : Parts) (own_txn until : Option ℕ) (x : ℕ) (es : List (RecordKey × PrimaryRecord)) (found after : Bool)
@@ -255,9 +226,7 @@ pub hit-near_more : (paths : List Parts) (i : ℕ) (path : Parts) (own_txn until
 hit-near_more paths i path own_txn until x es found after within is so_far more =
     more
     ∙ ap (λ b. b || hit (near path) own_txn until x es) so_far
-    ∙ sym (hit-or (near_any (take i paths)) (near path) own_txn until x es)
-    ∙ hit-same (λ q. near_any (take i paths) q || near path q) (near_any (take (i + 1) paths))
-    (λ q. ap (λ p. near_any (take i paths) q || near p q) is ∙ sym (list_any_more (λ p. near p q) paths i path within)) own_txn until x es
+    ∙ hit-some_more near paths i path own_txn until x es within is
 
 -- ---- conflicting intents
 

@@ -9,3 +9,4 @@ pub mod Reading
 pub mod Listing
 pub mod Places
 pub mod Picked
+pub mod Settled

@@ -1,5 +1,5 @@
 -- The positions of records that a search finds, at the transactions that are asked for.
-use Rattle.std.proofs.Common.{◌≡◌, ℕ, ◌+◌, ◌<◌, ◌≤◌, Bool, true, false, ◌&&◌, ◌||◌, not, List, [], ◌∷◌, ◌++◌, Option, Some, length, refl, sym, ap, ◌∙◌, arith, nat_eq, take, get_or}
+use Rattle.std.proofs.Common.{◌≡◌, ℕ, ◌+◌, ◌<◌, Bool, true, false, ◌&&◌, ◌||◌, not, List, [], ◌∷◌, Option, Some, length, refl, sym, ap, ◌∙◌, arith, nat_eq, take, get_or}
 use Rattle.std.specs.Prelude.{filter, cond, is_some}
 use Rattle.std.specs.List.{list_any}
 use Rattle.std.specs.BTreeSet.{BTreeSet, contains}
@@ -9,14 +9,14 @@ use Rattle.std.specs.Ordering.{nat_cmp, is_le}
 use Rattle.std.specs.declared.ops.Bound.TheVariants.{Included, Excluded}
 use Rattle.std.proofs.lemmas.List.Folds.{list_any_more}
 use Rattle.std.proofs.lemmas.Bool.Decides.{nat_tests}
-use Rattle.doc_path.specs.Path.{Parts, is_prefix}
-use Rattle.txn_types.specs.Tablet.{same_path}
+use Rattle.doc_path.specs.Path.{Parts}
+use Rattle.intent_records.specs.declared.path_range.PathRange.{PathRange}
 use Rattle.intent_records.specs.declared.primary_record.PrimaryRecord.{PrimaryRecord}
 use Rattle.intent_records.specs.declared.record_key.RecordKey.{RecordKey}
 use Rattle.intent_records.specs.Keys.{key_order}
-use Rattle.intent_records.specs.Search.{between, near, near_any, above_to, next_after}
+use Rattle.intent_records.specs.Search.{between, near, near_any, in_any}
 use Rattle.intent_records.specs.Related.{has_place, placed, Has, Adds}
-use Rattle.intent_records.proofs.Between.{is_eq-nat_cmp, between-next, between-after, keys_between, above_none, above_more, above_all}
+use Rattle.intent_records.proofs.Between.{is_eq-nat_cmp, keys_between}
 use Rattle.intent_records.proofs.Told.{set-turn}
 
 abbrev Records : Type 0
@@ -180,41 +180,35 @@ pub rest-end : (all : ℕ → ℕ → Bool) (es : Records) (s t : Placing) → e
 rest-end all es s t done before =
     before t (adds-same (λ x i. false) (λ x i. placed (λ q. true) x i es) t t (λ x i. ap (placed (λ q. true) x i) (sym done)) (adds-none t))
 
--- one more path above
-pub adds-above : (path above end : Parts) (n : ℕ) (es : Records) (s t u : Placing)
-    → 1 ≤ n → n ≤ length path → above ≡ take n path → end ≡ above ++ [] ∷ []
-    → Adds (λ x i. placed (above_to n path) x i es) s t
-    → Adds (λ x i. placed (between above end) x i es) t u
-    → Adds (λ x i. placed (above_to (n + 1) path) x i es) s u
-adds-above path above end n es s t u some fits is to so_far more =
-    adds-same (λ x i. placed (above_to n path) x i es || placed (between above end) x i es) (λ x i. placed (above_to (n + 1) path) x i es) s u
-    (λ x i.
-    ap (λ e. placed (above_to n path) x i es || placed (between above e) x i es) to
-    ∙ ap (λ b. placed (above_to n path) x i es || b) (placed-same (between above (above ++ [] ∷ [])) (same_path above) (between-next above) x i es)
-    ∙ ap (λ p. placed (above_to n path) x i es || placed (same_path p) x i es) is
-    ∙ sym (placed-or (above_to n path) (same_path (take n path)) x i es)
-    ∙ placed-same (λ q. above_to n path q || same_path (take n path) q) (above_to (n + 1) path) (λ q. sym (above_more path q n some fits)) x i es)
-    (adds-then (λ x i. placed (above_to n path) x i es) (λ x i. placed (between above end) x i es) s t u so_far more)
+-- one more of some sets of paths
+placed-some_more : {A : Type 0} (on : A → Parts → Bool) (xs : List A) (n : ℕ) (a : A) (x i : ℕ) (es : Records) → n < length xs → a ≡ get_or xs n a
+    → (placed (λ q. list_any (λ b. on b q) (take n xs)) x i es || placed (on a) x i es) ≡ placed (λ q. list_any (λ b. on b q) (take (n + 1) xs)) x i es
+placed-some_more on xs n a x i es within is =
+    sym (placed-or (λ q. list_any (λ b. on b q) (take n xs)) (on a) x i es)
+    ∙ placed-same (λ q. list_any (λ b. on b q) (take n xs) || on a q) (λ q. list_any (λ b. on b q) (take (n + 1) xs))
+    (λ q. ap (λ b. list_any (λ b. on b q) (take n xs) || on b q) is ∙ sym (list_any_more (λ b. on b q) xs n a within)) x i es
 
--- what lies beneath a path, after what is above it
-pub adds-beneath : (path end : Parts) (n : ℕ) (es : Records) (s t u : Placing)
-    → 1 ≤ length path → n ≡ length path → end ≡ next_after path
-    → Adds (λ x i. placed (above_to n path) x i es) s t
-    → Adds (λ x i. placed (between path end) x i es) t u
-    → Adds (λ x i. placed (near path) x i es) s u
-adds-beneath path end n es s t u some whole to so_far more =
-    adds-same (λ x i. placed (above_to n path) x i es || placed (between path end) x i es) (λ x i. placed (near path) x i es) s u
-    (λ x i.
-    ap (λ e. placed (above_to n path) x i es || placed (between path e) x i es) to
-    ∙ ap (λ b. placed (above_to n path) x i es || b) (placed-same (between path (next_after path)) (is_prefix path) (λ q. between-after path q some) x i es)
-    ∙ ap (λ m. placed (above_to m path) x i es || placed (is_prefix path) x i es) whole
-    ∙ sym (placed-or (above_to (length path) path) (is_prefix path) x i es)
-    ∙ placed-same (λ q. above_to (length path) path q || is_prefix path q) (near path) (λ q. above_all path q some) x i es)
-    (adds-then (λ x i. placed (above_to n path) x i es) (λ x i. placed (between path end) x i es) s t u so_far more)
+-- nothing is added for no ranges
+pub adds-start : (ranges : List PathRange) (es : Records) (s : Placing) → Adds (λ x i. placed (in_any (take 0 ranges)) x i es) s s
+adds-start ranges es s =
+    adds-same (λ x i. false) (λ x i. placed (in_any (take 0 ranges)) x i es) s s (λ x i. sym (placed-none (in_any (take 0 ranges)) (λ q. refl) x i es)) (adds-none s)
 
-pub adds-start : (path : Parts) (es : Records) (s : Placing) → Adds (λ x i. placed (above_to 1 path) x i es) s s
-adds-start path es s =
-    adds-same (λ x i. false) (λ x i. placed (above_to 1 path) x i es) s s (λ x i. sym (placed-none (above_to 1 path) (above_none path) x i es)) (adds-none s)
+-- one more of some ranges
+pub adds-range_more : (ranges : List PathRange) (n : ℕ) (range : PathRange) (es : Records) (s t u : Placing) → n < length ranges → range ≡ get_or ranges n range
+    → Adds (λ x i. placed (in_any (take n ranges)) x i es) s t
+    → Adds (λ x i. placed (between range.first range.end) x i es) t u
+    → Adds (λ x i. placed (in_any (take (n + 1) ranges)) x i es) s u
+adds-range_more ranges n range es s t u within is so_far more =
+    adds-same (λ x i. placed (in_any (take n ranges)) x i es || placed (between range.first range.end) x i es) (λ x i. placed (in_any (take (n + 1) ranges)) x i es) s u
+    (λ x i. placed-some_more (λ (r : PathRange). between r.first r.end) ranges n range x i es within is)
+    (adds-then (λ x i. placed (in_any (take n ranges)) x i es) (λ x i. placed (between range.first range.end) x i es) s t u so_far more)
+
+-- all ranges together are the paths near a path
+pub adds-all : (ranges : List PathRange) (n : ℕ) (path : Parts) (es : Records) (s t : Placing) → take n ranges ≡ ranges → ((q : Parts) → in_any ranges q ≡ near path q)
+    → Adds (λ x i. placed (in_any (take n ranges)) x i es) s t → Adds (λ x i. placed (near path) x i es) s t
+adds-all ranges n path es s t whole related adds =
+    adds-same (λ x i. placed (in_any (take n ranges)) x i es) (λ x i. placed (near path) x i es) s t
+    (λ x i. ap (λ l. placed (in_any l) x i es) whole ∙ placed-same (in_any ranges) (near path) related x i es) adds
 
 -- ---- what the transactions that are asked for have
 
@@ -239,11 +233,7 @@ has-more asked paths n path es s t within is so_far more = record {
       ∙ ap (λ b. has_place (s x) i || (b && placed (near path) x i es)) (so_far.asks x)
       ∙ ap (λ b. b || (asked x && placed (near path) x i es)) (so_far.has x i)
       ∙ by (asked x) (placed (near_any (take n paths)) x i es) (placed (near path) x i es)
-      ∙ ap (λ b. asked x && b) (
-      sym (placed-or (near_any (take n paths)) (near path) x i es)
-      ∙ placed-same (λ q. near_any (take n paths) q || near path q) (near_any (take (n + 1) paths))
-      (λ q. ap (λ p. near_any (take n paths) q || near p q) is ∙ sym (list_any_more (λ p. near p q) paths n path within)) x i es
-      );
+      ∙ ap (λ b. asked x && b) (placed-some_more near paths n path x i es within is);
 }
   where
     by : (a b c : Bool) → ((a && b) || (a && c)) ≡ (a && (b || c))

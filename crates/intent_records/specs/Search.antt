@@ -1,10 +1,11 @@
 -- What a search for records on related paths finds.
-use Rattle.std.specs.Prelude.{ℕ, Bool, true, false, ◌&&◌, not, List, [], ◌∷◌, ◌++◌, Option, Some, None, nat_eq, nat_lt, nat_le, length, filter}
+use Rattle.std.specs.Prelude.{ℕ, Bool, true, false, ◌&&◌, ◌||◌, not, List, [], ◌∷◌, ◌++◌, Option, Some, None, nat_eq, nat_lt, nat_le, if◌then◌else◌, length, filter}
 use Rattle.std.specs.List.{list_any}
 use Rattle.std.specs.Ordering.{is_le, is_gt}
 use Rattle.doc_path.specs.Path.{Parts, is_prefix, related, path_order}
 use Rattle.txn_types.specs.Tablet.{Intent, is_of, is_own, txn_of}
 use Rattle.conflict_matrix.specs.Conflict.{intents_of, any_meet}
+use Rattle.intent_records.specs.declared.path_range.PathRange.{PathRange}
 use Rattle.intent_records.specs.declared.primary_record.PrimaryRecord.{PrimaryRecord}
 use Rattle.intent_records.specs.declared.record_key.RecordKey.{RecordKey}
 
@@ -26,7 +27,16 @@ in_time (Some until) wrote = nat_le wrote until
 abbrev pub asks : Option ℕ → Option ℕ → ℕ → ℕ → Bool
 asks own_txn until x wrote = not (is_own own_txn x) && in_time until wrote
 
--- the transaction has such a record on such a path
+-- a record tells all that the records of its transaction at its path can tell: it is left aside with them, or told of
+abbrev pub settles : Option ℕ → Option ℕ → ℕ → ℕ → Bool
+settles own_txn until x wrote = is_own own_txn x || in_time until wrote
+
+-- the key of the first such record
+abbrev pub first_settled : Option ℕ → Option ℕ → List (RecordKey × PrimaryRecord) → Option RecordKey
+first_settled own_txn until [] = None
+first_settled own_txn until (e ∷ es) = if settles own_txn until e.0.txn e.1.wrote then Some e.0 else first_settled own_txn until es
+
+-- the transaction has a record on such a path, of those that are asked for
 abbrev pub hit : (Parts → Bool) → Option ℕ → Option ℕ → ℕ → List (RecordKey × PrimaryRecord) → Bool
 hit on own_txn until x es =
     list_any (λ (e : RecordKey × PrimaryRecord). (on e.0.path && asks own_txn until e.0.txn e.1.wrote) && nat_eq e.0.txn x) es
@@ -49,6 +59,10 @@ near_any paths q = list_any (λ path. near path q) paths
 -- a path with parts that the first one lies beneath, with fewer parts than i
 abbrev pub above_to : ℕ → Parts → Parts → Bool
 above_to i path q = some_parts q && is_prefix q path && nat_lt (length q) i
+
+-- a path in one of these ranges
+abbrev pub in_any : List PathRange → Parts → Bool
+in_any ranges q = list_any (λ (r : PathRange). between r.first r.end q) ranges
 
 -- the first path after all that begin with this one
 abbrev pub next_after : Parts → Parts

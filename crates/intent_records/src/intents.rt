@@ -45,8 +45,8 @@ impl Intents {
         }
     }
 
-    /// Adds the records of a write that became provisional at `wrote`, and is the `number`-th of its transaction. After
-    /// out of memory the records are as before.
+    /// Adds the records of a write that became provisional at `wrote`, and is the `number`-th of its transaction. If
+    /// memory runs out, the records are as before.
     pub fn add(
         &mut self,
         meta: &Meta,
@@ -93,8 +93,8 @@ impl Intents {
         })
     }
 
-    /// Takes the records of a transaction out, and gives its writes in the order in which they were added. After want of
-    /// memory the records are as before.
+    /// Takes the records of a transaction out, and gives its writes in the order in which they were added. If memory
+    /// runs out, the records are as before.
     pub fn take_of(&mut self, txn: TxnId) -> Result<Vec<Provisional>, Memory>
         ensures taken { (ps : List Intent) → Holds self.old ps → IfOk result (λ list. list.items ≡ map provisional_of (own txn ps)) }
         ensures ok { (ps : List Intent) → Holds self.old ps → OnOk result (Holds self.new (filter (λ (p : Intent). not (is_of txn p)) ps)) }
@@ -227,8 +227,8 @@ impl Intents {
     }
 }
 
-// Adds a path to those of a transaction, and its metadata where it is the first. If memory runs out, both maps have what
-// they had, where one has the transaction only where the other does.
+// Adds a path to those of a transaction, and its metadata if it is the first. If memory runs out, both maps have what they
+// had, where one has the transaction only if the other does.
 fn list(
     alloc: Global,
     metas: &mut BTreeMap<TxnId, Meta>,

@@ -8,6 +8,7 @@
 mod asked;
 mod bounds;
 mod intents;
+mod path_range;
 mod primary_record;
 mod record_key;
 mod related;

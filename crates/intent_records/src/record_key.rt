@@ -1,5 +1,5 @@
 //! Where a primary record stands.
-ghost use Rattle.std.specs.Prelude.{◌≡◌, IfOk};
+ghost use Rattle.std.specs.Prelude.{◌≡◌, ◌≤◌, IfOk};
 ghost use Rattle.intent_records.specs.Keys.{key_order};
 
 use doc_path::Path;
@@ -26,6 +26,19 @@ impl RecordKey {
             path: path.try_copy(alloc)?,
             txn: TxnId { number: 0 },
             position: 0,
+        })
+    }
+
+    /// The greatest key of its transaction on its path.
+    pub fn last_alike(&self, alloc: Global) -> Result<RecordKey, Memory>
+        ensures last { IfOk result (λ key. key ≡ (record { path = self.now.path; txn = self.now.txn; position = 0xffff_ffff_ffff_ffff })) }
+        ensures within { self.now.position ≤ 0xffff_ffff_ffff_ffff }
+    {
+        prove!(self.position <= usize::MAX);
+        Ok(RecordKey {
+            path: self.path.try_copy(alloc)?,
+            txn: self.txn,
+            position: usize::MAX,
         })
     }
 }

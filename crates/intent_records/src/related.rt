@@ -1,16 +1,16 @@
 //! The records of some transactions on related paths.
 ghost use Rattle.std.specs.Prelude.{◌≡◌, ℕ, ◌&&◌, ◌++◌, List, false, nat_eq, map, filter_map, option_map, slice_get, IfOk, OnOk};
-ghost use Rattle.std.specs.Ordering.{nat_cmp, is_gt};
+ghost use Rattle.std.specs.Ordering.{nat_cmp};
 ghost use Rattle.std.specs.BTreeMap.{get};
 ghost use Rattle.std.specs.BTreeSet.{contains, IsOrdered};
-ghost use Rattle.doc_path.specs.Path.{path_order};
 ghost use Rattle.txn_types.specs.Tablet.{Intent};
 ghost use Rattle.intent_records.specs.Holds.{Holds, own, provisional_of};
 ghost use Rattle.intent_records.specs.Search.{between, near};
 ghost use Rattle.intent_records.specs.Related.{related_writes, placed, Has, Adds};
 
-use crate::bounds::{first_after, next_beneath, push};
+use crate::bounds::related_ranges;
 use crate::intents::Intents;
+use crate::path_range::PathRange;
 use crate::record_key::RecordKey;
 use doc_path::Path;
 use docdb_base::{Memory, TryCopy};
@@ -50,29 +50,22 @@ impl Intents {
     ) -> Result<(), Memory>
         ensures { OnOk result (Adds (λ x i. placed (near path.now) x i self.now.records.entries) (get nat_cmp places.old) (get nat_cmp places.new)) }
     {
-        let parts = path.parts();
-        let mut above = Path::of(self.alloc, path.part(0))?;
-        for i in 1..parts {
-            let end = next_beneath(self.alloc, &above)?;
-            self.find_places_between(&above, &end, places)?;
-            push(&mut above, path.part(i))?;
+        for range in &related_ranges(self.alloc, path)? {
+            self.find_places_between(range, places)?;
         }
-        let end = first_after(self.alloc, path)?;
-        self.find_places_between(path, &end, places)
+        Ok(())
     }
 
-    // Adds the positions of the records on paths from `first` on and before `end`.
+    // Adds the positions of the records on paths in a range.
     fn find_places_between(
         &self,
-        first: &Path,
-        end: &Path,
+        range: &PathRange,
         places: &mut BTreeMap<TxnId, BTreeSet<usize>>,
     ) -> Result<(), Memory>
-        requires { is_gt (path_order first.now end.now) ≡ false }
-        ensures { OnOk result (Adds (λ x i. placed (between first.now end.now) x i self.now.records.entries) (get nat_cmp places.old) (get nat_cmp places.new)) }
+        ensures { OnOk result (Adds (λ x i. placed (between range.now.first range.now.end) x i self.now.records.entries) (get nat_cmp places.old) (get nat_cmp places.new)) }
     {
-        let first = RecordKey::first_at(self.alloc, first)?;
-        let end = RecordKey::first_at(self.alloc, end)?;
+        let first = RecordKey::first_at(self.alloc, &range.first)?;
+        let end = RecordKey::first_at(self.alloc, &range.end)?;
         for (key, _) in self.records.range(&first..&end) {
             add_place(places, key)?;
         }

@@ -38,7 +38,7 @@ use Rattle.tablet_records.specs.declared.tablet_records.TabletRecords.{TabletRec
 use Rattle.tablet_records.specs.Keeps.{Keeps}
 use Rattle.tablet_core.specs.declared.tablet_core.TabletCore.{TabletCore}
 use Rattle.tablet_core.specs.Stands.{Stands}
-use Rattle.tablet_core.specs.Rows.{Says, StaysItself, IsUndone, IfRestarted, ServesBy, intents_with, versions_with, IsDone, out_of_memory}
+use Rattle.tablet_core.specs.Decisions.{Says, StaysItself, IsUndone, IfRestarted, ServesBy, intents_with, versions_with, IsDone, out_of_memory}
 
 -- what the laws of the crates below say
 abbrev pub Replayed : Type 0
@@ -204,7 +204,7 @@ module _ {V L : Type 0} (holds : V → List Version → Type 0) where
     records = λ up. un.records (provisional h) (versions h) (st.records up);
   }
 
-  -- out of memory
+  -- if memory runs out
   pub undone_serves : Still → (old new : TabletCore V L) → IsUndone holds old new → SameCounts old.log new.log → (from : Actor) (reading : Option ℕ) (asked : Request) → ServesBy holds old new from reading asked out_of_memory
   undone_serves still old new un same from reading asked = record {
     advances = undone_stands still old new un;

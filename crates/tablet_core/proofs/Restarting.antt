@@ -16,7 +16,7 @@ use Rattle.leased_log.proofs.Parts.{none_of_or}
 use Rattle.tablet_records.specs.Keeps.{Keeps}
 use Rattle.tablet_core.specs.declared.tablet_core.TabletCore.{TabletCore}
 use Rattle.tablet_core.specs.Stands.{Stands}
-use Rattle.tablet_core.specs.Rows.{StaysItself, IsUndone, ServesBy, out_of_memory}
+use Rattle.tablet_core.specs.Decisions.{StaysItself, IsUndone, ServesBy, out_of_memory}
 use Rattle.tablet_core.specs.Restarts.{IsRebuilt, StartsAgain, StaysUnloaded, restarted_with, not_loaded}
 use Rattle.tablet_core.proofs.Performing.{Replayed, Still, undone_stands}
 
@@ -102,7 +102,7 @@ module _ {V L : Type 0} (holds : V → List Version → Type 0) where
     faults = λ plain none. absurd plain;
   }
 
-  -- out of memory before the restart
+  -- if memory runs out before the restart
   pub restart_undone : Still → (old new : TabletCore V L) → IsUndone holds old new → (from : Actor) → ServesBy holds old new from None Restart out_of_memory
   restart_undone still old new un from = record {
     advances = undone_stands holds still old new un;

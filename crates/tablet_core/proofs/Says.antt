@@ -1,4 +1,4 @@
--- What the table says where the rows decide.
+-- What the table says where something is decided.
 use Rattle.std.proofs.Common.{◌≡◌, ℕ, Bool, ◌||◌, List, Option, Some, None, Result, Ok, refl, sym, ap, ◌∙◌}
 use Rattle.std.specs.Prelude.{is_some, option_to_list}
 use Rattle.doc_path.specs.Path.{Parts}
@@ -18,13 +18,13 @@ use Rattle.safe_time.specs.declared.clock_refusal.ClockRefusal.{ClockRefusal}
 use Rattle.safe_time.specs.ActorClock.{ClockState, kind_of, served, clock_of, answer_over}
 use Rattle.log_record.specs.declared.log_record.LogRecord.{LogRecord}
 use Rattle.tablet_log.specs.Entries.{own_record}
-use Rattle.conflict_matrix.specs.declared.decision.Decision.TheVariants as meeting
+use Rattle.conflict_matrix.specs.declared.write_decision.WriteDecision.TheVariants as write_decision
 use Rattle.conflict_matrix.specs.Decide.{decision}
 use Rattle.leased_log.specs.Decides.{IsPlain, IsTold}
 use Rattle.tablet_records.specs.Keeps.{Keeps, IsRead}
 use Rattle.tablet_core.specs.declared.tablet_core.TabletCore.{TabletCore}
 use Rattle.tablet_core.specs.Stands.{Stands}
-use Rattle.tablet_core.specs.Rows.{Says, IsLoggable, IsRow}
+use Rattle.tablet_core.specs.Decisions.{Says, IsLoggable, IsDecided}
 
 -- what the law on the clock of the tables says
 abbrev pub Timed : Type 0
@@ -43,7 +43,7 @@ up_answer lease h fails reading asked plain up =
 
 -- ---- a write that meets others
 
-pub goes : (c o : Option ℕ) (done : Answer) → meeting.Go ≡ decision c o → write_answer c o done ≡ done
+pub goes : (c o : Option ℕ) (done : Answer) → write_decision.Go ≡ decision c o → write_answer c o done ≡ done
 goes (Some y) o done e = cc
 goes None (Some at) done e = cc
 goes None None done e = refl
@@ -106,18 +106,18 @@ module _ {V L : Type 0} (holds : V → List Version → Type 0) (s : TabletCore 
       };
     }
 
-  -- ---- rows
+  -- ---- decisions
 
-  pub tells_row : (fits : Parts → Type 0) (reading : Option ℕ) (asked : Request) (r : Reply) → IsPlain asked → IsTold r → ReadingFits (takes_time asked) reading
+  pub told_decided : (fits : Parts → Type 0) (reading : Option ℕ) (asked : Request) (r : Reply) → IsPlain asked → IsTold r → ReadingFits (takes_time asked) reading
       → ((h : History) → Keeps holds s.records (provisional h) (versions h) → (fails : Bool) → tablet_up s.log.clock.lease h fails (or_zero reading) asked ≡ told_only r)
-      → IsRow holds fits s reading asked (record { reply = r; step = None; own = None })
-  tells_row fits reading asked r plain told good up = record { loggable = record { spelled = tt; fit = tt }; says = tells reading asked r plain told good up }
+      → IsDecided holds fits s reading asked (record { reply = r; step = None; own = None })
+  told_decided fits reading asked r plain told good up = record { loggable = record { spelled = tt; fit = tt }; says = tells reading asked r plain told good up }
 
   module _ (fits : Parts → Type 0) (law : Timed) (reading floor : ℕ) (tick : Bool) where
-    pub steps_row : (step : Step) → served s.log.clock reading floor tick ≡ Ok step → (asked : Request) (own : Option LogRecord) (r : History → ℕ → Reply) (told : Reply) → IsLoggable fits (record { reply = told; step = Some step; own = own }) → IsPlain asked → IsTold told
+    pub stepped_decided : (step : Step) → served s.log.clock reading floor tick ≡ Ok step → (asked : Request) (own : Option LogRecord) (r : History → ℕ → Reply) (told : Reply) → IsLoggable fits (record { reply = told; step = Some step; own = own }) → IsPlain asked → IsTold told
         → ReadingFits (takes_time asked) (Some reading) → own_record asked (Some step.time) ≡ option_to_list own
         → ((h : History) → Keeps holds s.records (provisional h) (versions h) → r h step.time ≡ told)
         → ((h : History) → Keeps holds s.records (provisional h) (versions h) → (fails : Bool) → tablet_up s.log.clock.lease h fails reading asked ≡ timed s.log.clock.lease h fails (kind_of tick) floor reading (is_some own) (r h))
-        → IsRow holds fits s (Some reading) asked (record { reply = told; step = Some step; own = own })
-    steps_row step is asked own r told loggable plain is_told good logs replies up =
+        → IsDecided holds fits s (Some reading) asked (record { reply = told; step = Some step; own = own })
+    stepped_decided step is asked own r told loggable plain is_told good logs replies up =
         record { loggable = loggable; says = steps law reading floor tick step is asked own r told plain is_told good logs replies up }

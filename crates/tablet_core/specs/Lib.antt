@@ -1,6 +1,6 @@
 pub mod Fitting
 pub mod Stands
 pub mod Requests
-pub mod Rows
+pub mod Decisions
 pub mod Restarts
 pub mod Laws

@@ -2,16 +2,16 @@
 //!
 //! Each request of its table is a call. The contract of each is that of `Machine`: it answers what the table allows over
 //! the tablet's own entries, and stands for the entries with one more. `specs/Stands.antt` says when it stands for entries.
-//! `rows.rt` has a small function for each row of the table, which decides and changes nothing; what is kept is that of
+//! `decisions.rt` has a small function for each request, which decides and changes nothing; what is kept is that of
 //! `tablet_records`, and log, clock and restarts are those of `leased_log`. By the laws the times of entries that count rise,
 //! over restarts too, and the last lease in the log covers them.
 #![tactic(auto)]
 
+mod decisions;
 mod fitting_log;
 mod laws;
 mod machine;
 mod replies;
-mod rows;
 mod tablet_core;
 
 pub use laws::{times_are_leased, times_rise};

@@ -12,7 +12,7 @@ impl<V: Versions + Drop, L: LogStore> Machine for TabletCore<V, L> {
     ghost use Rattle.txn_data.specs.Time.{takes_time};
     ghost use Rattle.txn_types.specs.Machine.{ReadingGiven};
     ghost use Rattle.tablet_core.specs.Requests.{Accepts};
-    ghost use Rattle.tablet_core.specs.Rows.{IfRestarted, ServesBy, StaysItself};
+    ghost use Rattle.tablet_core.specs.Decisions.{IfRestarted, ServesBy, StaysItself};
     ghost use Rattle.tablet_core.specs.Restarts.{IsRebuilt};
 
     ghost actor = { λ s. Tablet s.tablet };

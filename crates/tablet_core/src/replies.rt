@@ -1,12 +1,12 @@
-//! Replies that no row of the table gives.
+//! Replies that the table does not decide.
 ghost use Rattle.std.specs.Prelude.{◌≡◌};
-ghost use Rattle.tablet_core.specs.Rows.{out_of_memory};
+ghost use Rattle.tablet_core.specs.Decisions.{out_of_memory};
 ghost use Rattle.tablet_core.specs.Restarts.{restarted_with, not_loaded};
 
 use txn_types::{Append, Refusal, Reply, Served};
 
-/// The reply of out of memory.
-pub(crate) fn want_of_memory() -> Served
+/// The reply if memory runs out.
+pub(crate) fn out_of_memory() -> Served
     ensures { result ≡ out_of_memory }
 {
     Served {

@@ -9,11 +9,11 @@ ghost use Rattle.safe_time.specs.ActorClock.{at_first};
 ghost use Rattle.tablet_core.specs.Stands.{Stands};
 ghost use Rattle.leased_log.specs.Acts.{SameCounts};
 ghost use Rattle.tablet_records.specs.Keeps.{Keeps, PathFits};
-ghost use Rattle.tablet_core.specs.Rows.{IfRestarted, IsDone, IsLoggable, IsUndone, Performs, ServesBy, StaysItself, intents_with, versions_with};
+ghost use Rattle.tablet_core.specs.Decisions.{IfRestarted, IsDone, IsLoggable, IsUndone, Performs, ServesBy, StaysItself, intents_with, versions_with};
 ghost use Rattle.tablet_core.specs.Restarts.{IsRebuilt, StartsAgain, StaysUnloaded};
 
 use crate::fitting_log::FittingLog;
-use crate::replies::{log_fault, restarted, want_of_memory};
+use crate::replies::{log_fault, out_of_memory, restarted};
 use doc_path::Path;
 use docdb_base::Memory;
 use docdb_outside::{LoadFault, LogStore};
@@ -81,12 +81,12 @@ impl<V: Versions + Drop, L: LogStore> TabletCore<V, L> {
         ensures serves { ServesBy V.holds self.old self.new _from None (request.ListWrite txn path.now) result }
     {
         if let Some(since) = self.log.down() {
-            let refused = self.down_row(since);
+            let refused = self.refuse_down(since);
             return self.perform(refused);
         }
-        match self.list_write_row(txn, path) {
+        match self.decide_list_write(txn, path) {
             Ok(decision) => self.perform(decision),
-            Err(_) => want_of_memory(),
+            Err(_) => out_of_memory(),
         }
     }
 
@@ -111,12 +111,12 @@ impl<V: Versions + Drop, L: LogStore> TabletCore<V, L> {
         ensures serves { ServesBy V.holds self.old self.new _from (Some reading) (request.Write meta.now number path.now op.now read seen fates.now) result }
     {
         if let Some(since) = self.log.down() {
-            let refused = self.down_row(since);
+            let refused = self.refuse_down(since);
             return self.perform(refused);
         }
-        match self.write_row(meta, number, path, op, read, seen, fates, reading) {
+        match self.decide_write(meta, number, path, op, read, seen, fates, reading) {
             Ok(decision) => self.perform(decision),
-            Err(_) => want_of_memory(),
+            Err(_) => out_of_memory(),
         }
     }
 
@@ -139,12 +139,12 @@ impl<V: Versions + Drop, L: LogStore> TabletCore<V, L> {
         ensures serves { ServesBy V.holds self.old self.new _from (Some reading) (request.Single txn path.now op.now seen fates.now) result }
     {
         if let Some(since) = self.log.down() {
-            let refused = self.down_row(since);
+            let refused = self.refuse_down(since);
             return self.perform(refused);
         }
-        match self.single_row(txn, path, op, seen, fates, reading) {
+        match self.decide_single(txn, path, op, seen, fates, reading) {
             Ok(decision) => self.perform(decision),
-            Err(_) => want_of_memory(),
+            Err(_) => out_of_memory(),
         }
     }
 
@@ -165,12 +165,12 @@ impl<V: Versions + Drop, L: LogStore> TabletCore<V, L> {
         ensures serves { ServesBy V.holds self.old self.new _from (Some reading) (request.ListRead own paths.now t g limit) result }
     {
         if let Some(since) = self.log.down() {
-            let refused = self.down_row(since);
+            let refused = self.refuse_down(since);
             return self.perform(refused);
         }
-        match self.list_read_row(own, paths, t, g, limit, reading) {
+        match self.decide_list_read(own, paths, t, g, limit, reading) {
             Ok(decision) => self.perform(decision),
-            Err(_) => want_of_memory(),
+            Err(_) => out_of_memory(),
         }
     }
 
@@ -192,12 +192,12 @@ impl<V: Versions + Drop, L: LogStore> TabletCore<V, L> {
         ensures serves { ServesBy V.holds self.old self.new _from None (request.Collect own kind paths.now t window fates.now) result }
     {
         if let Some(since) = self.log.down() {
-            let refused = self.down_row(since);
+            let refused = self.refuse_down(since);
             return self.perform(refused);
         }
-        match self.collect_row(own, kind, paths, t, window, fates) {
+        match self.decide_collect(own, kind, paths, t, window, fates) {
             Ok(decision) => self.perform(decision),
-            Err(_) => want_of_memory(),
+            Err(_) => out_of_memory(),
         }
     }
 
@@ -208,12 +208,12 @@ impl<V: Versions + Drop, L: LogStore> TabletCore<V, L> {
         ensures serves { ServesBy V.holds self.old self.new _from None request.ListIntents result }
     {
         if let Some(since) = self.log.down() {
-            let refused = self.down_row(since);
+            let refused = self.refuse_down(since);
             return self.perform(refused);
         }
-        match self.list_intents_row() {
+        match self.decide_list_intents() {
             Ok(decision) => self.perform(decision),
-            Err(_) => want_of_memory(),
+            Err(_) => out_of_memory(),
         }
     }
 
@@ -224,10 +224,10 @@ impl<V: Versions + Drop, L: LogStore> TabletCore<V, L> {
         ensures serves { ServesBy V.holds self.old self.new _from (Some reading) (request.Apply txn at) result }
     {
         if let Some(since) = self.log.down() {
-            let refused = self.down_row(since);
+            let refused = self.refuse_down(since);
             return self.perform(refused);
         }
-        let decision = self.apply_row(txn, at, reading);
+        let decision = self.decide_apply(txn, at, reading);
         self.perform(decision)
     }
 
@@ -238,10 +238,10 @@ impl<V: Versions + Drop, L: LogStore> TabletCore<V, L> {
         ensures serves { ServesBy V.holds self.old self.new _from None (request.Clean txn) result }
     {
         if let Some(since) = self.log.down() {
-            let refused = self.down_row(since);
+            let refused = self.refuse_down(since);
             return self.perform(refused);
         }
-        let decision = self.clean_row(txn);
+        let decision = self.decide_clean(txn);
         self.perform(decision)
     }
 
@@ -257,7 +257,7 @@ impl<V: Versions + Drop, L: LogStore> TabletCore<V, L> {
         match self.try_to_restart() {
             Ok(kept) => restarted(kept),
             Err(LoadFault::Failed) => log_fault(),
-            Err(LoadFault::Memory) => want_of_memory(),
+            Err(LoadFault::Memory) => out_of_memory(),
         }
     }
 
@@ -290,7 +290,7 @@ impl<V: Versions + Drop, L: LogStore> TabletCore<V, L> {
         a_tablet_is_replayed();
         match self.try_to_perform(decision) {
             Ok(served) => served,
-            Err(_) => want_of_memory(),
+            Err(_) => out_of_memory(),
         }
     }
 
@@ -307,7 +307,7 @@ impl<V: Versions + Drop, L: LogStore> TabletCore<V, L> {
     }
 }
 
-// Takes the record of an action's own into the contents, where there is one. If memory runs out, they are as before.
+// Takes the record of an action's own into the contents, if there is one. If memory runs out, they are as before.
 fn take_in<V: Versions + Drop>(
     records: &mut TabletRecords<V>,
     own: Option<&LogRecord>,

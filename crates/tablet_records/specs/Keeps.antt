@@ -8,8 +8,8 @@ use Rattle.txn_data.specs.declared.reply.Reply.TheVariants as reply
 use Rattle.txn_types.specs.Tablet.{Intent}
 use Rattle.log_record.specs.declared.log_record.LogRecord.{LogRecord}
 use Rattle.log_record.specs.declared.log_record.LogRecord.TheVariants.{Write, Single}
-use Rattle.conflict_matrix.specs.declared.decision.Decision.{Decision}
-use Rattle.conflict_matrix.specs.declared.decision.Decision.TheVariants.{Conflict}
+use Rattle.conflict_matrix.specs.declared.write_decision.WriteDecision.{WriteDecision}
+use Rattle.conflict_matrix.specs.declared.write_decision.WriteDecision.TheVariants.{Conflict}
 use Rattle.intent_records.specs.Holds as intents
 use Rattle.tablet_records.specs.declared.tablet_records.TabletRecords.{TabletRecords}
 
@@ -36,6 +36,6 @@ IsRead (reply.Collected rows) = Unit {0}
 IsRead r = ⊥
 
 -- the transaction with which a write conflicts
-abbrev pub other_in : Decision → Option ℕ
+abbrev pub other_in : WriteDecision → Option ℕ
 other_in (Conflict other) = Some other
 other_in d = None

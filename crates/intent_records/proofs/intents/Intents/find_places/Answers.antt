@@ -1,50 +1,23 @@
-use Rattle.std.proofs.Common.{◌≡◌, ◌+◌, ◌≤◌, [], ◌∷◌, ◌++◌, take, length, ap, ◌∙◌, arith}
+use Rattle.std.proofs.Common.{◌≡◌, take, ap, ◌∙◌}
 use Rattle.std.specs.BTreeMap.{get}
-use Rattle.std.specs.Ordering.{nat_cmp, is_gt}
-use Rattle.std.proofs.lemmas.Grind.{common_steps}
-use Rattle.std.proofs.lemmas.List.{take_more}
-use Rattle.std.proofs.lemmas.Option.{slice_get_within, get_or_from_slice_get}
-use Rattle.std.proofs.lemmas.Result.{on_ok_weaker}
-use Rattle.doc_path.specs.Path.{path_order}
-use Rattle.intent_records.proofs.Between.{forward-next, forward-after}
-use Rattle.intent_records.proofs.Places.{adds-start, adds-above, adds-beneath}
+use Rattle.std.specs.Ordering.{nat_cmp}
+use Rattle.std.proofs.lemmas.List.{take_all}
+use Rattle.intent_records.specs.Search.{in_any}
+use Rattle.intent_records.proofs.Places.{adds-start, adds-range_more, adds-all}
 use Rattle.intent_records.proofs.intents.Intents.find_places.Goals as goal
 
-pub find_places_between-requires : goal.find_places_between-requires
-find_places_between-requires c = ap (λ e. is_gt (path_order c.loop-i.above e)) c.in_ok-end.ensures ∙ forward-next c.loop-i.above
+pub loop-range-init : goal.loop-range-init
+loop-range-init c = adds-start c.deref-range-items.result.now c.args.self.now.records.entries (get nat_cmp c.args.places.now)
 
-pub find_places_between-requires-2 : goal.find_places_between-requires-2
-find_places_between-requires-2 c =
-    let long : 1 ≤ length c.args.path.now = omega arith in
-    ap (λ e. is_gt (path_order c.args.path.now e)) c.in_ok-end-2.ensures ∙ forward-after c.args.path.now long
-
-pub loop-i-init : goal.loop-i-init
-loop-i-init c = record {
-  above = grind (arith, common_steps);
-  found = adds-start c.args.path.now c.args.self.now.records.entries (get nat_cmp c.args.places.now);
-}
-
-pub loop-i-preserved : goal.loop-i-preserved
-loop-i-preserved c =
-    let path = c.args.path.now in
-    let i = c.loop-i.i in
-    let part = c.part-in-loop-i.result.now in
-    let more : take (i + 1) path ≡ take i path ++ part ∷ [] =
-    take_more path i part (slice_get_within path i part c.part-in-loop-i.ensures)
-    ∙ ap (λ q. take i path ++ q ∷ []) (get_or_from_slice_get path i part part c.part-in-loop-i.ensures) in
-    record {
-      above = grind (arith, common_steps, c.loop-i.invariant.above, more);
-      found = adds-above path c.loop-i.above c.in_ok-end.end i c.args.self.now.records.entries
-          (get nat_cmp c.args.places.now) (get nat_cmp c.loop-i.places) (get nat_cmp c.find_places_between.new.places)
-          (omega arith) (omega arith) c.loop-i.invariant.above c.in_ok-end.ensures c.loop-i.invariant.found c.in_ok-find_places_between.ensures;
-    }
+pub loop-range-preserved : goal.loop-range-preserved
+loop-range-preserved c =
+    adds-range_more c.deref-range-items.result.now c.loop-range.range-index c.range-item.result c.args.self.now.records.entries
+    (get nat_cmp c.args.places.now) (get nat_cmp c.loop-range.places) (get nat_cmp c.find_places_between.new.places)
+    c.loop-range-test.true c.range-item.is c.loop-range.invariant c.in_ok-find_places_between.ensures
 
 pub returns : goal.returns
 returns c =
-    let long : 1 ≤ length c.args.path.now = omega arith in
-    let whole : c.loop-i.i ≡ length c.args.path.now = omega arith in
-    on_ok_weaker c.find_places_between-2.result
-    (λ more. adds-beneath c.args.path.now c.in_ok-end-2.end c.loop-i.i c.args.self.now.records.entries
-    (get nat_cmp c.args.places.now) (get nat_cmp c.loop-i.places) (get nat_cmp c.find_places_between-2.new.places)
-    long whole c.in_ok-end-2.ensures c.loop-i.invariant.found more)
-    c.find_places_between-2.ensures
+    let ranges = c.deref-range-items.result.now in
+    let whole : take c.loop-range.range-index ranges ≡ ranges = take_all c.loop-range.range-index ranges c.loop-range-test.false in
+    adds-all ranges c.loop-range.range-index c.args.path.now c.args.self.now.records.entries (get nat_cmp c.args.places.now) (get nat_cmp c.loop-range.places) whole
+    (λ q. ap (λ l. in_any l q) c.deref-range-items.ensures.value ∙ c.in_ok-related_ranges.ensures.related q) c.loop-range.invariant

@@ -7,4 +7,4 @@ use Rattle.intent_records.proofs.intents.Intents.find_places_between.Given as go
 
 abbrev pub invariant-loop-key : goal.invariant-loop-key
 invariant-loop-key l =
-    AddsRest (λ x i. placed (between l.fn.first l.fn.end) x i l.self.records.entries) l.key-iterator (get nat_cmp l.fn.places) (get nat_cmp l.places)
+    AddsRest (λ x i. placed (between l.fn.range.first l.fn.range.end) x i l.self.records.entries) l.key-iterator (get nat_cmp l.fn.places) (get nat_cmp l.places)

@@ -1,51 +1,29 @@
-use Rattle.std.proofs.Common.{◌≡◌, ◌+◌, ◌≤◌, [], ◌∷◌, ◌++◌, take, length, ap, ◌∙◌, arith}
+use Rattle.std.proofs.Common.{◌≡◌, ◌||◌, List, take, ap, ◌∙◌}
 use Rattle.std.specs.BTreeSet.{contains}
-use Rattle.std.specs.Ordering.{nat_cmp, is_gt}
-use Rattle.std.proofs.lemmas.Grind.{common_steps}
-use Rattle.std.proofs.lemmas.List.{take_more}
-use Rattle.std.proofs.lemmas.Option.{slice_get_within, get_or_from_slice_get}
-use Rattle.std.proofs.lemmas.Result.{on_ok_weaker}
-use Rattle.doc_path.specs.Path.{path_order}
-use Rattle.intent_records.proofs.Between.{forward-next, forward-after}
-use Rattle.intent_records.proofs.Hits.{hit-start, hit-above, hit-beneath}
+use Rattle.std.specs.Ordering.{nat_cmp}
+use Rattle.std.proofs.lemmas.List.{take_all}
+use Rattle.intent_records.specs.declared.path_range.PathRange.{PathRange}
+use Rattle.intent_records.specs.Search.{hit, near, in_any}
+use Rattle.intent_records.proofs.Hits.{hit-same, hit-start, hit-range_more}
 use Rattle.intent_records.proofs.intents.Intents.find_related.Goals as goal
 
-pub find_between-requires : goal.find_between-requires
-find_between-requires c = ap (λ e. is_gt (path_order c.loop-i.above e)) c.in_ok-end.ensures ∙ forward-next c.loop-i.above
+pub loop-range-init : goal.loop-range-init
+loop-range-init c = λ x.
+    hit-start c.deref-range-items.result.now c.args.asked.now.own c.args.asked.now.until x c.args.self.now.records.entries (contains nat_cmp c.args.found.now x)
 
-pub find_between-requires-2 : goal.find_between-requires-2
-find_between-requires-2 c =
-    let long : 1 ≤ length c.args.path.now = omega arith in
-    ap (λ e. is_gt (path_order c.args.path.now e)) c.in_ok-end-2.ensures ∙ forward-after c.args.path.now long
-
-pub loop-i-init : goal.loop-i-init
-loop-i-init c = record {
-  above = grind (arith, common_steps);
-  found = λ x. hit-start c.args.path.now c.args.asked.now.own c.args.asked.now.until x c.args.self.now.records.entries (contains nat_cmp c.args.found.now x);
-}
-
-pub loop-i-preserved : goal.loop-i-preserved
-loop-i-preserved c =
-    let path = c.args.path.now in
-    let i = c.loop-i.i in
-    let part = c.part-in-loop-i.result.now in
-    let more : take (i + 1) path ≡ take i path ++ part ∷ [] =
-    take_more path i part (slice_get_within path i part c.part-in-loop-i.ensures)
-    ∙ ap (λ q. take i path ++ q ∷ []) (get_or_from_slice_get path i part part c.part-in-loop-i.ensures) in
-    record {
-      above = grind (arith, common_steps, c.loop-i.invariant.above, more);
-      found = λ x.
-          hit-above c.args.path.now c.loop-i.above c.in_ok-end.end c.loop-i.i c.args.asked.now.own c.args.asked.now.until x c.args.self.now.records.entries
-          (contains nat_cmp c.args.found.now x) (contains nat_cmp c.loop-i.found x) (contains nat_cmp c.find_between.new.found x)
-          (omega arith) (omega arith) c.loop-i.invariant.above c.in_ok-end.ensures (c.loop-i.invariant.found x) (c.in_ok-find_between.ensures x);
-    }
+pub loop-range-preserved : goal.loop-range-preserved
+loop-range-preserved c = λ x.
+    hit-range_more c.deref-range-items.result.now c.loop-range.range-index c.range-item.result c.args.asked.now.own c.args.asked.now.until x c.args.self.now.records.entries
+    (contains nat_cmp c.args.found.now x) (contains nat_cmp c.loop-range.found x) (contains nat_cmp c.find_between.new.found x)
+    c.loop-range-test.true c.range-item.is (c.loop-range.invariant x) (c.in_ok-find_between.ensures x)
 
 pub returns-clause-found : goal.returns-clause-found
-returns-clause-found c =
-    let long : 1 ≤ length c.args.path.now = omega arith in
-    let whole : c.loop-i.i ≡ length c.args.path.now = omega arith in
-    on_ok_weaker c.find_between-2.result
-    (λ more x. hit-beneath c.args.path.now c.in_ok-end-2.end c.loop-i.i c.args.asked.now.own c.args.asked.now.until x c.args.self.now.records.entries
-    (contains nat_cmp c.args.found.now x) (contains nat_cmp c.loop-i.found x) (contains nat_cmp c.find_between-2.new.found x)
-    long whole c.in_ok-end-2.ensures (c.loop-i.invariant.found x) (more x))
-    c.find_between-2.ensures
+returns-clause-found c = λ x.
+    let ranges = c.deref-range-items.result.now in
+    let whole : take c.loop-range.range-index ranges ≡ ranges = take_all c.loop-range.range-index ranges c.loop-range-test.false in
+    let own = c.args.asked.now.own in
+    let until = c.args.asked.now.until in
+    c.loop-range.invariant x
+    ∙ ap (λ (l : List PathRange). contains nat_cmp c.args.found.now x || hit (in_any l) own until x c.args.self.now.records.entries) (whole ∙ c.deref-range-items.ensures.value)
+    ∙ ap (λ b. contains nat_cmp c.args.found.now x || b)
+    (hit-same (in_any c.in_ok-related_ranges.field-0.items) (near c.args.path.now) c.in_ok-related_ranges.ensures.related own until x c.args.self.now.records.entries)

@@ -4,7 +4,7 @@ use Rattle.tablet_core.proofs.tablet_core.TabletCore.apply.Goals as goal
 
 pub returns-in-Some-clause-serves : goal.returns-in-Some-clause-serves
 returns-in-Some-clause-serves g c =
-    c.perform.ensures.performs c.args._from (Some c.args.reading) (request.Apply c.args.txn c.args.at) (c.down_row-refused.ensures.says (Some c.args.reading) (request.Apply c.args.txn c.args.at) (tt, tt, tt))
+    c.perform.ensures.performs c.args._from (Some c.args.reading) (request.Apply c.args.txn c.args.at) (c.refuse_down-refused.ensures.says (Some c.args.reading) (request.Apply c.args.txn c.args.at) (tt, tt, tt))
 
 pub returns-clause-serves : goal.returns-clause-serves
-returns-clause-serves g c = c.perform-2.ensures.performs c.args._from (Some c.args.reading) (request.Apply c.args.txn c.args.at) (c.apply_row-decision.ensures.says (search rules))
+returns-clause-serves g c = c.perform-2.ensures.performs c.args._from (Some c.args.reading) (request.Apply c.args.txn c.args.at) (c.decide_apply-decision.ensures.says (search rules))

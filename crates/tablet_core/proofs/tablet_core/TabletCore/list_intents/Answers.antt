@@ -5,10 +5,10 @@ use Rattle.tablet_core.proofs.tablet_core.TabletCore.list_intents.Goals as goal
 
 pub returns-in-Some-clause-serves : goal.returns-in-Some-clause-serves
 returns-in-Some-clause-serves g c =
-    c.perform.ensures.performs c.args._from None request.ListIntents (c.down_row-refused.ensures.says None request.ListIntents (tt, tt, refl))
+    c.perform.ensures.performs c.args._from None request.ListIntents (c.refuse_down-refused.ensures.says None request.ListIntents (tt, tt, refl))
 
 pub returns-in-Ok-clause-serves : goal.returns-in-Ok-clause-serves
 returns-in-Ok-clause-serves g c = c.perform-in-Ok.ensures.performs c.args._from None request.ListIntents (c.in-Ok.ensures.says (search rules))
 
 pub returns-in-Err-clause-serves : goal.returns-in-Err-clause-serves
-returns-in-Err-clause-serves g c = rw c.want_of_memory.ensures (nothing_serves g.V.Versions.holds c.args.self.now c.args._from None request.ListIntents)
+returns-in-Err-clause-serves g c = rw c.out_of_memory.ensures (nothing_serves g.V.Versions.holds c.args.self.now c.args._from None request.ListIntents)

@@ -11,7 +11,7 @@ returns-in-Ok-clause-itself g c =
 
 pub returns-in-Err-clause-performs : goal.returns-in-Err-clause-performs
 returns-in-Err-clause-performs g c from reading asked says =
-    rw c.want_of_memory.ensures (undone_serves g.V.Versions.holds c.the_same_log_stands.ensures c.args.self.now c.try_to_perform.new.self c.in-Err.ensures.memory c.in-Err.ensures.counts from reading asked)
+    rw c.out_of_memory.ensures (undone_serves g.V.Versions.holds c.the_same_log_stands.ensures c.args.self.now c.try_to_perform.new.self c.in-Err.ensures.memory c.in-Err.ensures.counts from reading asked)
 
 pub returns-in-Err-clause-itself : goal.returns-in-Err-clause-itself
-returns-in-Err-clause-itself g c = rw c.want_of_memory.ensures (undone_itself g.V.Versions.holds c.args.self.now c.try_to_perform.new.self c.in-Err.ensures.memory)
+returns-in-Err-clause-itself g c = rw c.out_of_memory.ensures (undone_itself g.V.Versions.holds c.args.self.now c.try_to_perform.new.self c.in-Err.ensures.memory)

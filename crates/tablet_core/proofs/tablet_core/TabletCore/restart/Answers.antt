@@ -24,8 +24,8 @@ returns-in-Err-Failed-clause-itself g c =
 
 pub returns-in-Err-Memory-clause-serves : goal.returns-in-Err-Memory-clause-serves
 returns-in-Err-Memory-clause-serves g c =
-    rw c.want_of_memory.ensures (restart_undone g.V.Versions.holds c.the_same_log_stands.ensures c.args.self.now c.try_to_restart.new.self (c.in-Err-Memory.ensures.memory (ap Err c.in-Err-Memory.field-0-is)) c.args._from)
+    rw c.out_of_memory.ensures (restart_undone g.V.Versions.holds c.the_same_log_stands.ensures c.args.self.now c.try_to_restart.new.self (c.in-Err-Memory.ensures.memory (ap Err c.in-Err-Memory.field-0-is)) c.args._from)
 
 pub returns-in-Err-Memory-clause-itself : goal.returns-in-Err-Memory-clause-itself
 returns-in-Err-Memory-clause-itself g c =
-    rw c.want_of_memory.ensures (undone_itself g.V.Versions.holds c.args.self.now c.try_to_restart.new.self (c.in-Err-Memory.ensures.memory (ap Err c.in-Err-Memory.field-0-is)))
+    rw c.out_of_memory.ensures (undone_itself g.V.Versions.holds c.args.self.now c.try_to_restart.new.self (c.in-Err-Memory.ensures.memory (ap Err c.in-Err-Memory.field-0-is)))

@@ -6,7 +6,7 @@ use Rattle.leased_log.specs.declared.decision.Decision.{Decision}
 use Rattle.leased_log.specs.Decides.{records_for, Does}
 use Rattle.leased_log.specs.Acts.{Acts}
 use Rattle.tablet_records.specs.Keeps.{Keeps}
-use Rattle.tablet_core.specs.Rows.{IsUndone, intents_with, versions_with}
+use Rattle.tablet_core.specs.Decisions.{IsUndone, intents_with, versions_with}
 use Rattle.tablet_core.proofs.Performing.{on_err}
 use Rattle.tablet_core.proofs.tablet_core.TabletCore.try_to_perform.Goals as goal
 
