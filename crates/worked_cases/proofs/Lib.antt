@@ -1,3 +1,3 @@
-pub mod Simulated
+pub mod Tables
 pub mod Cases
 pub mod ScheduleCases
