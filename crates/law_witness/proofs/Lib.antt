@@ -1,3 +1,5 @@
+pub mod Fits
+pub mod Simulated
 pub mod Allowed
 pub mod Entries
 pub mod Branches
