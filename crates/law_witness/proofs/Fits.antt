@@ -2,7 +2,7 @@
 -- serves is one of the cluster. Where the test is passed, it is so.
 use Rattle.std.proofs.Common.{◌≡◌, ℕ, ◌+◌, ◌^◌, ◌≤◌, Bool, true, false, ◌&&◌, List, [], ◌∷◌, Option, Some, None, refl, length, nat_eq, nat_le, nat_lt, is_some, is_none}
 use Rattle.std.specs.List.{All, list_all}
-use Rattle.std.proofs.lemmas.Bool.{leb-true, ltb-true, eqb-true}
+use Rattle.std.proofs.lemmas.Bool.{leb-true, ltb-true, eqb-true, and_parts}
 use Rattle.std.proofs.lemmas.List.Elements.{All-weaker}
 use Rattle.std.proofs.lemmas.List.Sums.{AllPass-from_list_all}
 use Rattle.doc_path.specs.Path.{Parts}
@@ -19,16 +19,11 @@ use Rattle.txn_types.specs.Plan.{IsCluster, IsShort, IsPath, IsPlace, CanRestart
 use Rattle.txn_types.specs.Session.{Opened}
 use Rattle.txn_types.specs.Run.{Mover, mover_at, IsMachine, StartsLine, MayStart}
 
-pub both : (a b : Bool) → (a && b) ≡ true → (a ≡ true) × (b ≡ true)
-both true true is = (refl, refl)
-both true false is = cc
-both false b is = cc
-
 abbrev is_within : ℕ → ℕ → ℕ → Bool
 is_within low high n = nat_le low n && nat_le n high
 
 within : (low high n : ℕ) → is_within low high n ≡ true → (low ≤ n) × (n ≤ high)
-within low high n is = let parts = both _ _ is in (leb-true low n parts.0, leb-true n high parts.1)
+within low high n is = let parts = and_parts _ _ is in (leb-true low n parts.0, leb-true n high parts.1)
 
 all_pass : {A : Type 0} (p : A → Bool) (P : A → Type 0) → ((x : A) → p x ≡ true → P x) → (xs : List A) → list_all p xs ≡ true → All P xs
 all_pass p P each xs is = All-weaker (λ x. p x ≡ true) P each xs (AllPass-from_list_all p xs is)
@@ -42,11 +37,11 @@ is_cluster c =
 
 pub cluster_fits : (c : Config) → is_cluster c ≡ true → IsCluster c
 cluster_fits c is =
-    let nodes = both _ _ is in
-    let tablets = both _ _ nodes.1 in
-    let status = both _ _ tablets.1 in
-    let passes = both _ _ status.1 in
-    let skew = both _ _ passes.1 in
+    let nodes = and_parts _ _ is in
+    let tablets = and_parts _ _ nodes.1 in
+    let status = and_parts _ _ tablets.1 in
+    let passes = and_parts _ _ status.1 in
+    let skew = and_parts _ _ passes.1 in
     record {
       nodes = within 1 16 c.nodes nodes.0;
       tablets = within 1 64 c.tablets tablets.0;
@@ -69,15 +64,15 @@ is_path p = nat_le 1 (length p) && (nat_le (length p) 5 && list_all is_short p)
 
 path : (p : Parts) → is_path p ≡ true → IsPath p
 path p is =
-    let some = both _ _ is in
-    let few = both _ _ some.1 in
+    let some = and_parts _ _ is in
+    let few = and_parts _ _ some.1 in
     (leb-true 1 (length p) some.0, leb-true (length p) 5 few.0, all_pass is_short IsShort short p few.1)
 
 abbrev is_place : Config → Place → Bool
 is_place config p = nat_lt p.tablet config.tablets && is_path p.path
 
 place : (config : Config) (p : Place) → is_place config p ≡ true → IsPlace config p
-place config p is = let parts = both _ _ is in (ltb-true p.tablet config.tablets parts.0, path p.path parts.1)
+place config p is = let parts = and_parts _ _ is in (ltb-true p.tablet config.tablets parts.0, path p.path parts.1)
 
 abbrev is_machine : Config → Actor → Bool
 is_machine config (Tablet k) = nat_lt k config.tablets
@@ -112,12 +107,12 @@ is_line config (command.Clock node micros) = nat_lt node config.nodes
 is_line config command.End = false
 
 put_line : (config : Config) (p : Place) (v : List ℕ) → (is_place config p && is_short v) ≡ true → IsPlace config p × IsShort v
-put_line config p v is = let parts = both _ _ is in (place config p parts.0, short v parts.1)
+put_line config p v is = let parts = and_parts _ _ is in (place config p parts.0, short v parts.1)
 
 read_line : (config : Config) (strict : Bool) (ps : List Place) → is_line config (command.Read strict ps) ≡ true → IsLine config (command.Read strict ps)
 read_line config strict ps is =
-    let some = both _ _ is in
-    let few = both _ _ some.1 in
+    let some = and_parts _ _ is in
+    let few = and_parts _ _ some.1 in
     (leb-true 1 (length ps) some.0, leb-true (length ps) 16 few.0, all_pass (is_place config) (IsPlace config) (place config) ps few.1)
 
 -- a line of the plan, or End with a transaction open
@@ -159,11 +154,11 @@ may_start config a m line = false
 
 mover_starts : (config : Config) (a : Actor) (m : Mover) (line : Command) → may_start config a m line ≡ true → MayStart config a m line
 mover_starts config (Session i) m line is =
-    let number = both _ _ is in
-    let few = both _ _ number.1 in
+    let number = and_parts _ _ is in
+    let few = and_parts _ _ number.1 in
     (within 1 1000 i number.0, ltb-true m.commands (2 ^ 40) few.0, line_starts config m.keeps.opened line few.1)
 mover_starts config (Applier k) m line is =
-    let parts = both _ _ is in (ltb-true k config.tablets parts.0, pass k line parts.1)
+    let parts = and_parts _ _ is in (ltb-true k config.tablets parts.0, pass k line parts.1)
 mover_starts config (Tablet k) m line is = cc
 mover_starts config (Status j) m line is = cc
 
@@ -177,7 +172,7 @@ no_line (Some line) is = cc
 
 pub start_allowed : (config : Config) (a : Actor) (m : Mover) (line : Command) → start_fits config a m line ≡ true → (m.line ≡ None) × MayStart config a m line
 start_allowed config a m line is =
-    let parts = both _ _ is in (no_line m.line parts.0, mover_starts config a m line parts.1)
+    let parts = and_parts _ _ is in (no_line m.line parts.0, mover_starts config a m line parts.1)
 
 -- the entries of a history
 

@@ -17,53 +17,10 @@ use Rattle.law_witness.specs.Shows.{ShowsAll, TwoWritersCommit}
 use Rattle.law_witness.proofs.Entries.{whole_allowed}
 use Rattle.law_witness.proofs.Branches.{both_done_allowed}
 use Rattle.law_witness.proofs.Allowed.{run_of}
-
--- the entry after this many later ones
-abbrev entry_at : ℕ → History → Option Entry
-entry_at n [] = None
-entry_at zero (e ∷ h) = Some e
-entry_at (suc n) (e ∷ h) = entry_at n h
-
-member_at : (n : ℕ) (e : Entry) (h : History) → entry_at n h ≡ Some e → Member e h
-member_at n e [] is = cc
-member_at zero e (f ∷ h) is = inl cc
-member_at (suc n) e (f ∷ h) is = inr (member_at n e h is)
-
--- no reading is above this
-abbrev is_up_to : ℕ → Option ℕ → Bool
-is_up_to most None = true
-is_up_to most (Some reading) = nat_le reading most
-
-abbrev are_up_to : ℕ → History → Bool
-are_up_to most [] = true
-are_up_to most (e ∷ h) = is_up_to most e.reading && are_up_to most h
-
-both_true : (a b : Bool) → (a && b) ≡ true → (a ≡ true) × (b ≡ true)
-both_true true true is = (refl, refl)
-both_true true false is = cc
-both_true false b is = cc
-
-reads_up_to : (most : ℕ) (reading : Option ℕ) → is_up_to most reading ≡ true → ReadsUpTo most reading
-reads_up_to most None is = tt
-reads_up_to most (Some reading) is = leb-true reading most is
-
-all_up_to : (most : ℕ) (h : History) (e : Entry) → are_up_to most h ≡ true → Member e h → ReadsUpTo most e.reading
-all_up_to most [] e is m = absurd m
-all_up_to most (f ∷ h) e is m =
-    let both = both_true (is_up_to most f.reading) (are_up_to most h) is in
-    elim m [
-      | inl here ↦ rw here (reads_up_to most f.reading both.0)
-      | inr later ↦ all_up_to most h e both.1 later
-    ]
-
--- both lines that name a place name the one place
-on_tablet : (p : Place) → Member p (place ∷ place ∷ []) → p.tablet ≡ 0
-on_tablet p (inl is) = rw is refl
-on_tablet p (inr (inl is)) = rw is refl
-on_tablet p (inr (inr m)) = absurd m
+use Rattle.law_witness.proofs.Tests.{member_at, all_up_to, one_home}
 
 places_agree : PlacesAgree whole
-places_agree = λ p q at_p at_q same. rw (on_tablet p at_p, on_tablet q at_q) refl
+places_agree = one_home (λ part. 0) whole refl
 
 abbrev txn : CommittedTxn
 txn = record { txn = x; at = committed_at; writes = (record { path = doc; op = Put val }) ∷ [] }
@@ -112,7 +69,7 @@ second_is_there = inl refl
 pub two_commit : TwoWritersCommit small both_done
 two_commit = record {
   run = run_of both_done both_done_allowed;
-  places = λ p q at_p at_q same. rw (on_tablet p at_p, on_tablet q at_q) refl;
+  places = one_home (λ part. 0) both_done refl;
   first = txn;
   second = second;
   first_committed = first_is_there;

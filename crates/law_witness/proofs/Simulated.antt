@@ -1,5 +1,6 @@
 -- What the simulation makes of a script is a run, where the test of what it leaves open is passed.
 use Rattle.std.proofs.Common.{◌≡◌, ℕ, zero, suc, ◌+◌, Bool, true, false, ◌&&◌, List, [], ◌∷◌, Option, Some, None, refl, sym, inl}
+use Rattle.std.proofs.lemmas.Bool.{and_parts}
 use Rattle.txn_data.specs.Time.{takes_time}
 use Rattle.txn_data.specs.declared.actor.Actor.{Actor}
 use Rattle.txn_data.specs.declared.command.Command.{Command}
@@ -17,7 +18,7 @@ use Rattle.txn_types.specs.Program.{Turn, turn_with}
 use Rattle.txn_types.specs.Run.{Flight, Quiet, Asked, Answered, Mover, mover_at, flight, IsUnderWay, CanKeep, ReadingFits, Allowed, Steps, Run}
 use Rattle.txn_types.specs.Script.{reading_of, node_of}
 use Rattle.worked_cases.specs.Simulated.{Fault, no_fault, entry, fails_now, reading_for, serve, turned, next_turn, move_in, move, moved, start, all_done, next_line, lines_left, start_any, event, events, by_turns}
-use Rattle.law_witness.proofs.Fits.{both, machine, is_cluster, cluster_fits, start_allowed, entry_fits, entries_fit}
+use Rattle.law_witness.proofs.Fits.{machine, is_cluster, cluster_fits, start_allowed, entry_fits, entries_fit}
 
 -- where the test is passed, each entry is allowed
 abbrev Sound : Config → History → Type 0
@@ -32,7 +33,7 @@ one_more : (config : Config) (h : History) (a : Actor) (reading : Option ℕ) (e
     (entry_fits config h a e ≡ true → Allowed config h a reading e) → Sound config h → Sound config (entry a reading e ∷ h)
 unfolding Steps
 one_more config h a reading e allowed before is =
-    let parts = both (entries_fit config h) (entry_fits config h a e) is in (before parts.0, allowed parts.1)
+    let parts = and_parts (entries_fit config h) (entry_fits config h a e) is in (before parts.0, allowed parts.1)
 
 start_sound : (config : Config) (a : Actor) (line : Command) (h : History) → Sound config h → Sound config (start config a line h)
 start_sound config a line h =
