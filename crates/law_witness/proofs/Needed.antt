@@ -16,7 +16,7 @@ use Rattle.law_witness.specs.Witness.{small, val, place}
 use Rattle.law_witness.specs.Scripts.{run_of, beyond_skew, beyond_skew_script, two_tablets, two_homes_script, other_val, row, within_skew, read_elsewhere, singles_at_two, writers_at_two, single_after, unrelated_singles, unrelated_writers, misplaced}
 use Rattle.law_witness.specs.Needed.{NotFreshBeyondSkew, NotRightAtTwo, NotFreshAtTwo, SameTimeAtTwo, OverlapAtTwo, SingleNotApart, SameTimeUnrelated, OverlapUnrelated}
 use Rattle.law_witness.proofs.Simulated.{done_is_run}
-use Rattle.law_witness.proofs.Tests.{one_home, two_homes, read_at, is_read, commit_at, is_commit, skew_held, skew_broken}
+use Rattle.law_witness.proofs.Tests.{by_byte, one_home, two_homes, read_at, is_read, commit_at, is_commit, is_no_commit, skew_held, skew_broken}
 
 overlaps : (config : Config) (h : History) (x y : CommittedTxn) → read_time config h y.txn < x.at → read_time config h x.txn < y.at → Apart config h x y → ⊥
 overlaps config h x y above_y above_x (inl below) = omega arith
@@ -113,4 +113,57 @@ overlap_at_two =
       second = commit_at 1 all;
       overlap = λ apart. overlaps two_tablets h (commit_at 0 all) (commit_at 1 all) (omega arith) (omega arith)
         (apart (is_commit 0 all refl) (is_commit 1 all refl) (λ same. omega (arith, same)) refl);
+    }
+
+pub single_not_apart : SingleNotApart small (run_of small single_after)
+unfolding tables
+single_not_apart =
+    let h = run_of small single_after in
+    let all = committed h in
+    let writers = committed_snapshots h in
+    record {
+      run = done_is_run small no_fault single_after refl refl;
+      places = one_home (λ part. 0) h refl;
+      txn = commit_at 0 writers;
+      single = commit_at 0 all;
+      txn_committed = is_commit 0 writers refl;
+      single_committed = is_commit 0 all refl;
+      is_single = is_no_commit (commit_at 0 all) writers refl;
+      differ = λ same. omega (arith, same);
+      related = refl;
+      not_apart = overlaps small h (commit_at 0 writers) (commit_at 0 all) (omega arith) (omega arith);
+    }
+
+pub same_time_unrelated : SameTimeUnrelated two_tablets (run_of two_tablets unrelated_singles)
+unfolding tables
+same_time_unrelated =
+    let h = run_of two_tablets unrelated_singles in
+    let all = committed h in
+    record {
+      run = done_is_run two_tablets no_fault unrelated_singles refl refl;
+      places = one_home by_byte h refl;
+      first = commit_at 0 all;
+      second = commit_at 1 all;
+      first_committed = is_commit 0 all refl;
+      second_committed = is_commit 1 all refl;
+      differ = λ same. omega (arith, same);
+      unrelated = refl;
+      same_time = refl;
+    }
+
+pub overlap_unrelated : OverlapUnrelated small (run_of small unrelated_writers)
+unfolding tables
+overlap_unrelated =
+    let h = run_of small unrelated_writers in
+    let all = committed_snapshots h in
+    record {
+      run = done_is_run small no_fault unrelated_writers refl refl;
+      places = one_home (λ part. 0) h refl;
+      first = commit_at 0 all;
+      second = commit_at 1 all;
+      first_committed = is_commit 0 all refl;
+      second_committed = is_commit 1 all refl;
+      differ = λ same. omega (arith, same);
+      unrelated = refl;
+      not_apart = overlaps small h (commit_at 0 all) (commit_at 1 all) (omega arith) (omega arith);
     }

@@ -1,7 +1,7 @@
 -- Facts of a history by a test that computes.
-use Rattle.std.proofs.Common.{◌≡◌, ℕ, zero, suc, ◌+◌, Bool, true, false, ◌&&◌, List, [], ◌∷◌, Option, Some, None, nat_eq, nat_le, refl, sym, ap, inl, inr}
+use Rattle.std.proofs.Common.{◌≡◌, ℕ, zero, suc, ◌+◌, ◌-◌, Bool, true, false, ◌&&◌, ◌||◌, List, [], ◌∷◌, Option, Some, None, nat_eq, nat_le, refl, sym, ap, inl, inr}
 use Rattle.std.specs.List.{list_all, flat_map}
-use Rattle.std.proofs.lemmas.Bool.{leb-true, le-leb, eqb-true, eq-eqb, and_parts, and_from}
+use Rattle.std.proofs.lemmas.Bool.{leb-true, le-leb, eqb-true, eq-eqb, and_parts, and_from, or_left, or_right}
 use Rattle.txn_data.specs.declared.committed_txn.CommittedTxn.{CommittedTxn}
 use Rattle.txn_data.specs.declared.config.Config.{Config}
 use Rattle.txn_data.specs.declared.entry.Entry.{Entry}
@@ -99,6 +99,24 @@ is_commit n xs is = nth_member _ n xs is
 -- each place is at the home of its document
 abbrev is_home : (Option (List ℕ) → ℕ) → Place → Bool
 is_home home p = nat_eq p.tablet (home (first_part p.path))
+
+-- a commit is none of these where none has its id
+abbrev has_txn : ℕ → List CommittedTxn → Bool
+has_txn id [] = false
+has_txn id (x ∷ xs) = nat_eq x.txn id || has_txn id xs
+
+has_its_txn : (x : CommittedTxn) (xs : List CommittedTxn) → Member x xs → has_txn x.txn xs ≡ true
+has_its_txn x [] m = absurd m
+has_its_txn x (y ∷ ys) (inl here) = or_left _ _ (eq-eqb y.txn x.txn (ap (λ (z : CommittedTxn). z.txn) (sym here)))
+has_its_txn x (y ∷ ys) (inr later) = or_right _ _ (has_its_txn x ys later)
+
+pub is_no_commit : (x : CommittedTxn) (xs : List CommittedTxn) → has_txn x.txn xs ≡ false → Member x xs → ⊥
+is_no_commit x xs is m = let there = has_its_txn x xs m in cc
+
+-- of two documents, the one whose name begins with the byte 98 is at tablet 1
+abbrev pub by_byte : Option (List ℕ) → ℕ
+by_byte (Some (byte ∷ more)) = byte - 97
+by_byte part = 0
 
 at_home : (home : Option (List ℕ) → ℕ) (ps : List Place) (p : Place) → list_all (is_home home) ps ≡ true → Member p ps →
     p.tablet ≡ home (first_part p.path)

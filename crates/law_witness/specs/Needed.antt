@@ -9,6 +9,8 @@ use Rattle.txn_types.specs.Plan.{PlacesAgree}
 use Rattle.txn_types.specs.Reads.{Read, reads, Right, Fresh, SkewHeld, related_writes, Apart}
 use Rattle.txn_types.specs.Run.{Run}
 use Rattle.txn_promises.specs.Promises.{CommitsDiffer, WritersDoNotOverlap}
+use Rattle.law_witness.specs.Witness.{small}
+use Rattle.law_witness.specs.Scripts.{run_of, two_tablets, two_homes_script, within_skew, read_elsewhere, singles_at_two, writers_at_two, unrelated_singles, unrelated_writers}
 
 -- ## without the skew
 
@@ -57,6 +59,13 @@ pub record OverlapAtTwo (config : Config) (h : History) : Type 0 where
   pub second : CommittedTxn
   pub overlap : WritersDoNotOverlap config h first second → ⊥
 
+-- so without that a read may be wrong, or stale, and commits may have one time, or overlap
+pub record OneTabletIsNeeded : Type 0 where
+  pub not_right : NotRightAtTwo two_tablets (run_of two_tablets two_homes_script)
+  pub not_fresh : NotFreshAtTwo within_skew (run_of within_skew read_elsewhere)
+  pub same_time : SameTimeAtTwo two_tablets (run_of two_tablets singles_at_two)
+  pub overlap : OverlapAtTwo two_tablets (run_of two_tablets writers_at_two)
+
 -- ## without a snapshot transaction on each side
 
 -- places agree, and of two commits with related writes one is a single write: they are not apart, as transactions have to be,
@@ -98,3 +107,8 @@ pub record OverlapUnrelated (config : Config) (h : History) : Type 0 where
   pub differ : first.txn ≡ second.txn → ⊥
   pub unrelated : related_writes first second ≡ false
   pub not_apart : Apart config h first second → ⊥
+
+-- so commits that are not related may have one time, or overlap
+pub record RelatedWritesAreNeeded : Type 0 where
+  pub same_time : SameTimeUnrelated two_tablets (run_of two_tablets unrelated_singles)
+  pub overlap : OverlapUnrelated small (run_of small unrelated_writers)
