@@ -1,5 +1,5 @@
 -- The runs in which a premise is missing, by computation.
-use Rattle.std.proofs.Common.{◌≡◌, ℕ, ◌+◌, ◌*◌, ◌<◌, ◌≤◌, List, [], ◌∷◌, Option, Some, None, refl, ap, inl, inr, arith}
+use Rattle.std.proofs.Common.{◌≡◌, ℕ, ◌+◌, ◌*◌, ◌<◌, ◌≤◌, List, [], ◌∷◌, Option, Some, refl, ap, inl, inr, arith}
 use Rattle.std.specs.List.{flat_map}
 use Rattle.txn_data.specs.declared.committed_txn.CommittedTxn.{CommittedTxn}
 use Rattle.txn_data.specs.declared.config.Config.{Config}
@@ -47,8 +47,8 @@ not_fresh_beyond_skew =
       finished = is_read 0 h refl;
       beyond = skew_broken beyond_skew (read_at 0 h) refl;
       not_fresh = λ fresh.
-        let early : time 1600000 0 ≤ time 1000000 0 = fresh (commit_at 0 told) (is_commit 0 told refl) in
-        omega arith;
+          let early : time 1600000 0 ≤ time 1000000 0 = fresh (commit_at 0 told) (is_commit 0 told refl) in
+          omega arith;
     }
 
 -- the first and the second place that a script names are of one document
@@ -67,9 +67,9 @@ not_right_at_two =
       finished = is_read 0 h refl;
       skew = skew_held two_tablets (read_at 0 h) refl;
       not_right = λ right.
-        let shown : row place val ∷ [] ≡ row place other_val ∷ [] = right in
-        let bytes : 1 ≡ 2 = ap first_value shown in
-        omega arith;
+          let shown : row place val ∷ [] ≡ row place other_val ∷ [] = right in
+          let bytes : 1 ≡ 2 = ap first_value shown in
+          omega arith;
     }
 
 pub not_fresh_at_two : NotFreshAtTwo within_skew (run_of within_skew read_elsewhere)
@@ -84,8 +84,8 @@ not_fresh_at_two =
       finished = is_read 0 h refl;
       skew = skew_held within_skew (read_at 0 h) refl;
       not_fresh = λ fresh.
-        let early : time 1400000 0 ≤ time 1000000 0 = fresh (commit_at 0 told) (is_commit 0 told refl) in
-        omega arith;
+          let early : time 1400000 0 ≤ time 1000000 0 = fresh (commit_at 0 told) (is_commit 0 told refl) in
+          omega arith;
     }
 
 pub same_time_at_two : SameTimeAtTwo two_tablets (run_of two_tablets singles_at_two)
@@ -112,7 +112,7 @@ overlap_at_two =
       first = commit_at 0 all;
       second = commit_at 1 all;
       overlap = λ apart. overlaps two_tablets h (commit_at 0 all) (commit_at 1 all) (omega arith) (omega arith)
-        (apart (is_commit 0 all refl) (is_commit 1 all refl) (λ same. omega (arith, same)) refl);
+          (apart (is_commit 0 all refl) (is_commit 1 all refl) (λ same. omega (arith, same)) refl);
     }
 
 pub single_not_apart : SingleNotApart small (run_of small single_after)

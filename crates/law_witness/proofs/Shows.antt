@@ -1,6 +1,5 @@
 -- What the run shows, by computation.
-use Rattle.std.proofs.Common.{◌≡◌, ℕ, ◌+◌, zero, suc, Bool, true, false, ◌&&◌, [], ◌∷◌, Option, Some, None, nat_le, refl, inl, inr, arith}
-use Rattle.std.proofs.lemmas.Bool.{leb-true}
+use Rattle.std.proofs.Common.{◌+◌, true, false, [], ◌∷◌, Some, None, refl, inl, inr, arith}
 use Rattle.txn_data.specs.declared.committed_txn.CommittedTxn.{CommittedTxn}
 use Rattle.txn_data.specs.declared.append.Append.TheVariants.{Failed}
 use Rattle.txn_data.specs.declared.entry.Entry.{Entry}
@@ -9,14 +8,13 @@ use Rattle.txn_data.specs.declared.refusal.Refusal.TheVariants as refusal
 use Rattle.txn_data.specs.declared.reply.Reply.TheVariants as reply
 use Rattle.txn_data.specs.declared.request.Request.TheVariants as request
 use Rattle.txn_data.specs.declared.op.Op.TheVariants.{Put}
-use Rattle.txn_data.specs.declared.place.Place.{Place}
 use Rattle.txn_types.specs.Lists.{Member, inserted_by, sorted_by}
-use Rattle.txn_types.specs.History.{History, next_restart_kept, counting_before}
+use Rattle.txn_types.specs.History.{next_restart_kept, counting_before}
 use Rattle.txn_types.specs.Committed.{writes, committed, committed_snapshots}
 use Rattle.txn_types.specs.Plan.{PlacesAgree}
-use Rattle.txn_types.specs.Reads.{Read, ReadsUpTo, reads, before_start, begin_of, reading_after, known, SkewHeld}
+use Rattle.txn_types.specs.Reads.{Read, reads, before_start, begin_of, reading_after, known, SkewHeld}
 use Rattle.txn_types.specs.Run.{mover_at}
-use Rattle.law_witness.specs.Witness.{small, entry, status, whole, done, collected, rows, x, doc, val, place, committed_at, written_at, writer, reader, applier, early, late, late_at, restarted, applied}
+use Rattle.law_witness.specs.Witness.{small, entry, status, whole, collected, rows, x, doc, val, committed_at, written_at, writer, reader, applier, early, late, late_at, restarted, applied}
 use Rattle.law_witness.specs.Branches.{y, both_done}
 use Rattle.law_witness.specs.Shows.{ShowsAll, TwoWritersCommit, KeptCommitStands, ReadsInside, ReadsTwoTablets}
 use Rattle.law_witness.proofs.Entries.{whole_allowed}
@@ -27,7 +25,7 @@ use Rattle.worked_cases.proofs.Tables.{tables}
 use Rattle.law_witness.specs.Scripts as scripts
 use Rattle.law_witness.specs.Scripts.{two_tablets, read_own, read_both, rows_inside, rows_of_two, kept, commit_again}
 use Rattle.law_witness.proofs.Simulated.{done_is_run}
-use Rattle.law_witness.proofs.Tests.{member_at, all_up_to, by_byte, one_home, read_at, is_read, commit_at, is_commit, skew_held}
+use Rattle.law_witness.proofs.Tests.{member_at, by_byte, one_home, read_at, is_read, commit_at, is_commit, skew_held}
 
 places_agree : PlacesAgree whole
 places_agree = one_home (λ part. 0) whole refl

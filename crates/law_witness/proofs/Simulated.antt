@@ -1,5 +1,5 @@
 -- What the simulation makes of a script is a run, where the test of what it leaves open is passed.
-use Rattle.std.proofs.Common.{◌≡◌, ℕ, zero, suc, ◌+◌, Bool, true, false, ◌&&◌, List, [], ◌∷◌, Option, Some, None, refl, sym, inl}
+use Rattle.std.proofs.Common.{◌≡◌, ℕ, zero, suc, Bool, true, false, ◌&&◌, List, [], ◌∷◌, Option, Some, None, refl, inl}
 use Rattle.std.proofs.lemmas.Bool.{and_parts}
 use Rattle.txn_data.specs.Time.{takes_time}
 use Rattle.txn_data.specs.declared.actor.Actor.{Actor}
@@ -15,7 +15,7 @@ use Rattle.txn_types.specs.Clock.{has_failed}
 use Rattle.txn_types.specs.History.{History, own}
 use Rattle.txn_types.specs.Program as program
 use Rattle.txn_types.specs.Program.{Turn, turn_with}
-use Rattle.txn_types.specs.Run.{Flight, Quiet, Asked, Answered, Mover, mover_at, flight, IsUnderWay, CanKeep, ReadingFits, Allowed, Steps, Run}
+use Rattle.txn_types.specs.Run.{Flight, Quiet, Asked, Answered, mover_at, flight, IsUnderWay, CanKeep, ReadingFits, Allowed, Steps, Run}
 use Rattle.txn_types.specs.Script.{reading_of, node_of}
 use Rattle.worked_cases.specs.Simulated.{Fault, no_fault, entry, fails_now, reading_for, serve, turned, next_turn, move_in, move, moved, start, all_done, next_line, lines_left, start_any, event, events, by_turns}
 use Rattle.law_witness.proofs.Fits.{machine, is_cluster, cluster_fits, start_allowed, entry_fits, entries_fit}
@@ -57,14 +57,17 @@ serve_sound : (config : Config) (f : Fault) (to a : Actor) (asked : Request) (h 
 serve_sound config f to a request.Restart h sent =
     one_more config h to None _ (λ fits. (machine config to fits, sent, refl, can_keep f.kept (own to h)))
 serve_sound config f to a asked h sent =
-    one_more config h to _ _ (λ fits.
-    (machine config to fits, sent, record {
-      fails = fails_now f to h;
-      fits = reading_fits config to h (takes_time asked);
-      replied = refl;
-      took = refl;
-      logged = refl;
-    }))
+    one_more config h to _ _ (λ fits. (
+      machine config to fits,
+      sent,
+      record {
+        fails = fails_now f to h;
+        fits = reading_fits config to h (takes_time asked);
+        replied = refl;
+        took = refl;
+        logged = refl;
+      },
+    ))
 
 turned_sound : (config : Config) (a : Actor) (h : History) (reading : Option ℕ) (t : Turn Told) → IsUnderWay (mover_at config a h).line →
     flight a h ≡ Quiet → turn_with (mover_at config a h).rest reading ≡ t → Sound config h →
