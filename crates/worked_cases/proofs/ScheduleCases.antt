@@ -20,14 +20,14 @@ use Rattle.worked_cases.proofs.Cases.{one, at, doc, val, on, txn}
 use Rattle.worked_cases.proofs.Tables.{tables}
 
 -- the plan of some sessions, with the number of each line's session and the lines that move a mover
-abbrev of_session : ℕ → List Command → SessionPlan
+abbrev pub of_session : ℕ → List Command → SessionPlan
 of_session i cs = record { session = i; commands = cs }
 
-abbrev goes : ℕ → ℕ → GoLine
+abbrev pub goes : ℕ → ℕ → GoLine
 goes i n = record { who = mover.Session i; count = n }
 
 -- the last pass over each of the tablets after everything else
-abbrev last_passes : Config → List ℕ → History → History
+abbrev pub last_passes : Config → List ℕ → History → History
 last_passes config ks h = all_done config no_fault (map (λ k. (Applier k, command.Apply k)) ks) h
 
 -- what the reads of a history told, and what they have to tell
@@ -44,7 +44,7 @@ abbrev times_due : Config → History → List ℕ
 times_due config h = map (final_time config) (reads h)
 
 -- a commit beside a status question: the commit is served first, and the read restarts at its time
-abbrev go_one : Config
+abbrev pub go_one : Config
 go_one = record one { schedule = Go }
 
 abbrev beside : Commands
