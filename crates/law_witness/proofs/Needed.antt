@@ -10,12 +10,12 @@ use Rattle.txn_types.specs.History.{History}
 use Rattle.txn_types.specs.Committed.{committed, committed_snapshots}
 use Rattle.txn_types.specs.Plan.{PlacesAgree, started_places}
 use Rattle.txn_types.specs.Reads.{known, read_time, Apart}
-use Rattle.worked_cases.specs.Simulated.{no_fault}
+use Rattle.worked_cases.specs.Simulated.{no_fault, by_turns}
 use Rattle.worked_cases.proofs.Tables.{tables}
 use Rattle.law_witness.specs.Witness.{small, val, place}
-use Rattle.law_witness.specs.Scripts.{run_of, beyond_skew, beyond_skew_script, two_tablets, two_homes_script, other_val, row, within_skew, read_elsewhere, singles_at_two, writers_at_two, single_after, unrelated_singles, unrelated_writers, misplaced}
-use Rattle.law_witness.specs.Needed.{NotFreshBeyondSkew, NotRightAtTwo, NotFreshAtTwo, SameTimeAtTwo, OverlapAtTwo, SingleNotApart, SameTimeUnrelated, OverlapUnrelated}
-use Rattle.law_witness.proofs.Simulated.{done_is_run}
+use Rattle.law_witness.specs.Scripts.{run_of, read_beside, question_first, beyond_skew, beyond_skew_script, two_tablets, two_homes_script, other_val, row, within_skew, read_elsewhere, singles_at_two, writers_at_two, single_after, unrelated_singles, unrelated_writers, misplaced}
+use Rattle.law_witness.specs.Needed.{NotFreshBeyondSkew, MissesLaterCommit, NotRightAtTwo, NotFreshAtTwo, SameTimeAtTwo, OverlapAtTwo, SingleNotApart, SameTimeUnrelated, OverlapUnrelated}
+use Rattle.law_witness.proofs.Simulated.{done_is_run, turns_are_run}
 use Rattle.law_witness.proofs.Tests.{by_byte, one_home, two_homes, read_at, is_read, commit_at, is_commit, is_no_commit, skew_held, skew_broken}
 
 overlaps : (config : Config) (h : History) (x y : CommittedTxn) → read_time config h y.txn < x.at → read_time config h x.txn < y.at → Apart config h x y → ⊥
@@ -166,4 +166,23 @@ overlap_unrelated =
       differ = λ same. omega (arith, same);
       unrelated = refl;
       not_apart = overlaps small h (commit_at 0 all) (commit_at 1 all) (omega arith) (omega arith);
+    }
+
+pub misses_later_commit : MissesLaterCommit small (by_turns small read_beside question_first [])
+unfolding tables
+misses_later_commit =
+    let h = by_turns small read_beside question_first [] in
+    let all = committed h in
+    record {
+      run = turns_are_run small read_beside question_first refl refl;
+      places = one_home (λ part. 0) h refl;
+      read = read_at 0 h;
+      finished = is_read 0 h refl;
+      skew = skew_held small (read_at 0 h) refl;
+      txn = commit_at 0 all;
+      committed_txn = is_commit 0 all refl;
+      related = refl;
+      told = refl;
+      not_before = refl;
+      missed = omega arith;
     }

@@ -16,14 +16,15 @@ use Rattle.txn_types.specs.Reads.{Read, reads, before_start, begin_of, reading_a
 use Rattle.txn_types.specs.Run.{mover_at}
 use Rattle.law_witness.specs.Witness.{small, entry, status, whole, collected, rows, x, doc, val, committed_at, written_at, writer, reader, applier, early, late, late_at, restarted, applied}
 use Rattle.law_witness.specs.Branches.{y, both_done}
-use Rattle.law_witness.specs.Shows.{ShowsAll, TwoWritersCommit, KeptCommitStands, ReadsInside, ReadsTwoTablets}
+use Rattle.law_witness.specs.Shows.{ShowsAll, TwoWritersCommit, KeptCommitStands, ReadsInside, ReadsTwoTablets, LeavesOne}
 use Rattle.law_witness.proofs.Entries.{whole_allowed}
 use Rattle.law_witness.proofs.Branches.{both_done_allowed}
 use Rattle.law_witness.proofs.Allowed.{run_of}
 use Rattle.worked_cases.specs.Simulated.{no_fault, all_done}
 use Rattle.worked_cases.proofs.Tables.{tables}
+use Rattle.worked_cases.proofs.SettledCases.{left_settled}
 use Rattle.law_witness.specs.Scripts as scripts
-use Rattle.law_witness.specs.Scripts.{two_tablets, read_own, read_both, rows_inside, rows_of_two, kept, commit_again}
+use Rattle.law_witness.specs.Scripts.{two_tablets, read_own, read_both, rows_inside, rows_of_two, kept, commit_again, lost, end_refused}
 use Rattle.law_witness.proofs.Simulated.{done_is_run}
 use Rattle.law_witness.proofs.Tests.{member_at, by_byte, one_home, read_at, is_read, commit_at, is_commit, skew_held}
 
@@ -145,4 +146,15 @@ reads_two_tablets =
       again = refl;
       shows = refl;
       skew = skew_held two_tablets (read_at 0 h) refl;
+    }
+
+pub leaves_one : LeavesOne small (all_done small lost end_refused [])
+unfolding tables
+leaves_one =
+    let h = all_done small lost end_refused [] in
+    record {
+      run = done_is_run small lost end_refused refl refl;
+      places = one_home (λ part. 0) h refl;
+      told = refl;
+      settled = left_settled;
     }

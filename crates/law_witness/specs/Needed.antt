@@ -1,12 +1,12 @@
 -- Each premise of a promise is needed: runs in which one premise is missing, and what is promised fails.
-use Rattle.std.specs.Prelude.{◌≡◌, true, false}
+use Rattle.std.specs.Prelude.{◌≡◌, ◌<◌, true, false}
 use Rattle.txn_data.specs.declared.committed_txn.CommittedTxn.{CommittedTxn}
 use Rattle.txn_data.specs.declared.config.Config.{Config}
 use Rattle.txn_types.specs.Lists.{Member}
 use Rattle.txn_types.specs.History.{History}
 use Rattle.txn_types.specs.Committed.{committed, committed_snapshots}
 use Rattle.txn_types.specs.Plan.{PlacesAgree}
-use Rattle.txn_types.specs.Reads.{Read, reads, Right, Fresh, SkewHeld, related_writes, Apart}
+use Rattle.txn_types.specs.Reads.{Read, reads, paths_asked, touches, origin, was_told, final_time, Right, Fresh, SkewHeld, related_writes, Apart}
 use Rattle.txn_types.specs.Run.{Run}
 use Rattle.txn_promises.specs.Promises.{CommitsDiffer, WritersDoNotOverlap}
 use Rattle.law_witness.specs.Witness.{small}
@@ -22,6 +22,23 @@ pub record NotFreshBeyondSkew (config : Config) (h : History) : Type 0 where
   pub finished : Member read (reads h)
   pub beyond : SkewHeld config config.skew_us read → ⊥
   pub not_fresh : Fresh config h read → ⊥
+
+-- ## without a commit that was told before the read began
+
+-- places agree, clocks agreed within the skew before a finished read, and a commit that is related to it and was told is later
+-- than its final time: it was not told before the read began
+pub record MissesLaterCommit (config : Config) (h : History) : Type 0 where
+  pub run : Run config h
+  pub places : PlacesAgree h
+  pub read : Read
+  pub finished : Member read (reads h)
+  pub skew : SkewHeld config config.skew_us read
+  pub txn : CommittedTxn
+  pub committed_txn : Member txn (committed h)
+  pub related : touches (paths_asked config read) txn ≡ true
+  pub told : was_told read.before txn.txn ≡ true
+  pub not_before : was_told (origin config read) txn.txn ≡ false
+  pub missed : final_time config read < txn.at
 
 -- ## without places that agree
 

@@ -4,12 +4,13 @@ use Rattle.txn_data.specs.declared.actor.Actor.{Actor}
 use Rattle.txn_data.specs.declared.actor.Actor.TheVariants.{Status, Session}
 use Rattle.txn_data.specs.declared.command.Command.{Command}
 use Rattle.txn_data.specs.declared.command.Command.TheVariants as command
+use Rattle.txn_data.specs.declared.commands.Commands.{Commands}
 use Rattle.txn_data.specs.declared.config.Config.{Config}
 use Rattle.txn_data.specs.declared.place.Place.{Place}
 use Rattle.txn_data.specs.declared.row.Row.{Row}
 use Rattle.txn_types.specs.History.{History}
 use Rattle.worked_cases.specs.Simulated.{Fault, no_fault, all_done}
-use Rattle.law_witness.specs.Witness.{small, place, val, writer, reader}
+use Rattle.law_witness.specs.Witness.{small, place, val, writer, reader, applier}
 
 abbrev pub Script : Type 0
 Script = List (Actor × Command)
@@ -88,6 +89,18 @@ singles_at_two = write_singly place misplaced
 abbrev pub writers_at_two : Script
 writers_at_two = write_together place misplaced
 
+-- a read asks for the fate of the transaction before it commits; it is told after the commit was
+abbrev pub read_beside : Commands
+read_beside = record {
+  sessions = (record { session = 1; commands = command.Begin 0 ∷ command.Put place val ∷ command.Commit ∷ [] })
+      ∷ (record { session = 2; commands = command.Read false (place ∷ []) ∷ [] }) ∷ [];
+  order = 1 ∷ 1 ∷ 1 ∷ 2 ∷ [];
+  go = [];
+}
+
+abbrev pub question_first : List (Actor × ℕ)
+question_first = (writer, 13) ∷ (reader, 6) ∷ (writer, 5) ∷ (reader, 5) ∷ []
+
 -- the document is written by a transaction, and then singly
 abbrev pub single_after : Script
 single_after =
@@ -123,6 +136,15 @@ abbrev pub read_both : Script
 read_both =
     (writer, command.SinglePut place val 0) ∷ (writer, command.SinglePut far other_val 0)
     ∷ (reader, command.Read false (place ∷ far ∷ [])) ∷ []
+
+-- the second append of the status tablet fails, and the restart loses it; the session could not end, so its write is left
+abbrev pub lost : Fault
+lost = record kept { kept = false }
+
+abbrev pub end_refused : Script
+end_refused =
+    (writer, command.Begin 0) ∷ (writer, command.Put place val) ∷ (writer, command.Commit) ∷ (writer, command.End)
+    ∷ (reader, command.Restart (Status 0)) ∷ (applier, command.Apply 0) ∷ []
 
 -- what those two reads show
 abbrev pub row : Place → List ℕ → Row

@@ -1,7 +1,7 @@
 -- What the runs show: they meet the premises of the promises over all runs, and hold what these speak of.
 use Rattle.std.specs.Prelude.{◌≡◌, ℕ, Bool, true, List, [], ◌∷◌, Option, Some, None}
 use Rattle.txn_data.specs.declared.actor.Actor.{Actor}
-use Rattle.txn_data.specs.declared.actor.Actor.TheVariants.{Tablet, Status}
+use Rattle.txn_data.specs.declared.actor.Actor.TheVariants.{Tablet, Status, Applier}
 use Rattle.txn_data.specs.declared.append.Append.TheVariants.{Took, Failed}
 use Rattle.txn_data.specs.declared.committed_txn.CommittedTxn.{CommittedTxn}
 use Rattle.txn_data.specs.declared.config.Config.{Config}
@@ -10,12 +10,14 @@ use Rattle.txn_data.specs.declared.reply.Reply.TheVariants as reply
 use Rattle.txn_data.specs.declared.refusal.Refusal.TheVariants as refusal
 use Rattle.txn_data.specs.declared.request.Request.TheVariants as request
 use Rattle.txn_data.specs.declared.row.Row.{Row}
+use Rattle.txn_data.specs.declared.told.Told.TheVariants as told
 use Rattle.txn_types.specs.Lists.{Member}
 use Rattle.txn_types.specs.History.{History}
 use Rattle.txn_types.specs.Committed.{committed_snapshots}
 use Rattle.txn_types.specs.Plan.{PlacesAgree}
 use Rattle.txn_types.specs.Reads.{Read, reads, known, inside, line_of, places_asked, was_told, related_writes, SkewHeld}
 use Rattle.txn_types.specs.ReadProgram.{tablets_of}
+use Rattle.txn_types.specs.Settled.{Settled, last_told}
 use Rattle.txn_types.specs.Run.{Run}
 use Rattle.law_witness.specs.Witness.{entry}
 
@@ -106,3 +108,10 @@ pub record ReadsTwoTablets (config : Config) (h : History) (rows : List Row) : T
   pub again : read.restarts ≡ 1
   pub shows : read.rows ≡ rows
   pub skew : SkewHeld config config.skew_us read
+
+-- a run in which places agree, and the last pass over tablet 0 was told that one transaction is left, and just that is left
+pub record LeavesOne (config : Config) (h : History) : Type 0 where
+  pub run : Run config h
+  pub places : PlacesAgree h
+  pub told : last_told (Applier 0) h ≡ Some (told.Passed 0 0 1)
+  pub settled : Settled h 0 1

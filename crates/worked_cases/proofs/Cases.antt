@@ -9,8 +9,6 @@ use Rattle.txn_data.specs.declared.told.Told.TheVariants as told
 use Rattle.txn_data.specs.declared.told_refusal.ToldRefusal.TheVariants as why
 use Rattle.txn_data.specs.declared.config.Config.{Config}
 use Rattle.txn_data.specs.declared.schedule.Schedule.TheVariants.{Serial}
-use Rattle.txn_types.specs.Writes.{beneath}
-use Rattle.txn_types.specs.Cause.{tells}
 use Rattle.worked_cases.specs.Simulated.{told_by, told_in, all_done}
 use Rattle.worked_cases.proofs.Tables.{tables}
 
@@ -169,6 +167,13 @@ too_fast_status_tablet : told_by (two_nodes 1600000) (
     ≡ told.Began (txn 2 1) (at 0) ∷ told.Written (at 1) ∷ told.Committed (txn 2 1) (1600000 * 4096) ∷ told.Values (at 0) 0 ((record { path = doc.path; value = None }) ∷ []) ∷ []
 unfolding tables
 too_fast_status_tablet = refl
+
+-- a read that must not restart is told what it met
+fast_and_strict : told_by (two_nodes 1400000) (
+    says 2 (command.Begin 0) ∷ says 2 (command.Put doc (val 1)) ∷ says 2 command.Commit ∷ says 4 (command.Read true (doc ∷ [])) ∷ [])
+    ≡ told.Began (txn 2 1) (at 0) ∷ told.Written (at 1) ∷ told.Committed (txn 2 1) (1400000 * 4096) ∷ told.Refused (why.Restart (1400000 * 4096) doc.path) ∷ []
+unfolding tables
+fast_and_strict = refl
 
 -- a transaction over two tablets
 two_tablets : told_by eight (

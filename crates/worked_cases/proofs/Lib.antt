@@ -4,3 +4,4 @@ pub mod Cases
 pub mod ScheduleCases
 pub mod DrawnCases
 pub mod SettledCases
+pub mod NextCases

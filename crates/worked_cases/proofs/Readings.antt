@@ -1,5 +1,5 @@
 -- Whether readings are as they were told, by a test that computes.
-use Rattle.std.proofs.Common.{◌≡◌, ℕ, Bool, true, false, ◌&&◌, [], ◌∷◌, Option, Some, None, nat_eq}
+use Rattle.std.proofs.Common.{◌≡◌, ℕ, Bool, true, ◌&&◌, [], ◌∷◌, Option, Some, None, nat_eq}
 use Rattle.std.proofs.lemmas.Bool.{eqb-true, and_parts}
 use Rattle.txn_data.specs.declared.config.Config.{Config}
 use Rattle.txn_types.specs.History.{History}

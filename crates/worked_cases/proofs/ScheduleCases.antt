@@ -14,7 +14,7 @@ use Rattle.txn_data.specs.declared.config.Config.{Config}
 use Rattle.txn_data.specs.declared.schedule.Schedule.TheVariants.{Serial, Go}
 use Rattle.txn_types.specs.History.{History}
 use Rattle.txn_types.specs.Reads.{Read, reads, line_of, rows_asked, seen_by, final_time}
-use Rattle.txn_types.specs.Script.{moves, moves_by, passes_at, lines, count}
+use Rattle.txn_types.specs.Script.{moves, moves_by, passes_at}
 use Rattle.worked_cases.specs.Simulated.{told_in, by_turns, all_done, no_fault}
 use Rattle.worked_cases.proofs.Cases.{one, at, doc, val, on, txn}
 use Rattle.worked_cases.proofs.Tables.{tables}

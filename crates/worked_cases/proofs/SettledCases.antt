@@ -1,6 +1,6 @@
 -- A worked case of what is left: the append of a commit is lost, the session cannot end, and the last pass leaves its write.
-use Rattle.std.proofs.Common.{◌≡◌, ℕ, zero, suc, ◌<◌, false, List, [], ◌∷◌, Some, refl, sym, subst, inl, inr, arith}
-use Rattle.txn_data.specs.declared.actor.Actor.TheVariants.{Tablet, Status, Applier}
+use Rattle.std.proofs.Common.{◌≡◌, ℕ, zero, suc, false, [], ◌∷◌, Some, refl, sym, subst, inl, inr, arith}
+use Rattle.txn_data.specs.declared.actor.Actor.TheVariants.{Status, Applier}
 use Rattle.txn_data.specs.declared.command.Command.TheVariants as command
 use Rattle.txn_data.specs.declared.told.Told.TheVariants as told
 use Rattle.txn_data.specs.declared.told_refusal.ToldRefusal.TheVariants as why
@@ -47,7 +47,7 @@ left = record {
   wrote = at 1;
 }
 
-left_settled : Settled left_run 0 1
+pub left_settled : Settled left_run 0 1
 unfolding tables
 left_settled = record {
   pending = only (λ p. (priority : ℕ) × (record_of p.meta.txn (own (Status p.meta.status) left_run) ≡ status.Pending priority)) left (0, refl);
