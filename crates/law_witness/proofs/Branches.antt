@@ -4,7 +4,8 @@ use Rattle.std.proofs.lemmas.List.Elements.{All-from_recursion}
 use Rattle.txn_types.specs.Plan.{IsPlace}
 use Rattle.law_witness.specs.Witness.{small, place}
 use Rattle.law_witness.specs.Branches.{put_again, listed_first, asking_late, promised, second_begun, second_written, both_done, reader_begun, single_done, overwriting}
-use Rattle.law_witness.proofs.Allowed.{tables, AreAllowed, none, ◌and_then◌, on_tablet}
+use Rattle.worked_cases.proofs.Tables.{tables}
+use Rattle.law_witness.proofs.Allowed.{AreAllowed, none, ◌and_then◌, on_tablet}
 use Rattle.law_witness.proofs.Entries.{writing_allowed, committing_allowed, done_allowed}
 
 pub put_again_allowed : AreAllowed put_again

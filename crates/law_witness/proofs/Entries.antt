@@ -3,7 +3,8 @@ use Rattle.std.proofs.Common.{[], ◌∷◌, false, refl, inl, arith}
 use Rattle.std.proofs.lemmas.List.Elements.{All-from_recursion}
 use Rattle.txn_types.specs.Plan.{IsPlace}
 use Rattle.law_witness.specs.Witness.{small, place, begun, writing, written, committing, done, listing, asking, up_again, collecting, met, collected, learned, whole}
-use Rattle.law_witness.proofs.Allowed.{tables, AreAllowed, none, ◌and_then◌, on_tablet}
+use Rattle.worked_cases.proofs.Tables.{tables}
+use Rattle.law_witness.proofs.Allowed.{AreAllowed, none, ◌and_then◌, on_tablet}
 
 pub begun_allowed : AreAllowed begun
 unfolding tables

@@ -1,5 +1,9 @@
+pub mod Fits
+pub mod Simulated
+pub mod Tests
 pub mod Allowed
 pub mod Entries
 pub mod Branches
 pub mod Wrong
 pub mod Shows
+pub mod Needed

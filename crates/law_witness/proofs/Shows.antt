@@ -1,69 +1,35 @@
 -- What the run shows, by computation.
-use Rattle.std.proofs.Common.{◌≡◌, ℕ, ◌+◌, zero, suc, Bool, true, false, ◌&&◌, [], ◌∷◌, Option, Some, None, nat_le, refl, inl, inr, arith}
-use Rattle.std.proofs.lemmas.Bool.{leb-true}
+use Rattle.std.proofs.Common.{◌+◌, true, false, [], ◌∷◌, Some, None, refl, inl, inr, arith}
 use Rattle.txn_data.specs.declared.committed_txn.CommittedTxn.{CommittedTxn}
+use Rattle.txn_data.specs.declared.append.Append.TheVariants.{Failed}
 use Rattle.txn_data.specs.declared.entry.Entry.{Entry}
+use Rattle.txn_data.specs.declared.event.Event.TheVariants.{Serve, Restarted}
+use Rattle.txn_data.specs.declared.refusal.Refusal.TheVariants as refusal
+use Rattle.txn_data.specs.declared.reply.Reply.TheVariants as reply
+use Rattle.txn_data.specs.declared.request.Request.TheVariants as request
 use Rattle.txn_data.specs.declared.op.Op.TheVariants.{Put}
-use Rattle.txn_data.specs.declared.place.Place.{Place}
 use Rattle.txn_types.specs.Lists.{Member, inserted_by, sorted_by}
-use Rattle.txn_types.specs.History.{History, next_restart_kept, counting_before}
+use Rattle.txn_types.specs.History.{next_restart_kept, counting_before}
 use Rattle.txn_types.specs.Committed.{writes, committed, committed_snapshots}
 use Rattle.txn_types.specs.Plan.{PlacesAgree}
-use Rattle.txn_types.specs.Reads.{Read, ReadsUpTo, reads, before_start, begin_of, reading_after, known, SkewHeld}
+use Rattle.txn_types.specs.Reads.{Read, reads, before_start, begin_of, reading_after, known, SkewHeld}
 use Rattle.txn_types.specs.Run.{mover_at}
-use Rattle.law_witness.specs.Witness.{small, whole, done, collected, rows, x, doc, val, place, committed_at, writer, applier, late, late_at, restarted, applied}
+use Rattle.law_witness.specs.Witness.{small, entry, status, whole, collected, rows, x, doc, val, committed_at, written_at, writer, reader, applier, early, late, late_at, restarted, applied}
 use Rattle.law_witness.specs.Branches.{y, both_done}
-use Rattle.law_witness.specs.Shows.{ShowsAll, TwoWritersCommit}
+use Rattle.law_witness.specs.Shows.{ShowsAll, TwoWritersCommit, KeptCommitStands, ReadsInside, ReadsTwoTablets, LeavesOne}
 use Rattle.law_witness.proofs.Entries.{whole_allowed}
 use Rattle.law_witness.proofs.Branches.{both_done_allowed}
 use Rattle.law_witness.proofs.Allowed.{run_of}
-
--- the entry after this many later ones
-abbrev entry_at : ℕ → History → Option Entry
-entry_at n [] = None
-entry_at zero (e ∷ h) = Some e
-entry_at (suc n) (e ∷ h) = entry_at n h
-
-member_at : (n : ℕ) (e : Entry) (h : History) → entry_at n h ≡ Some e → Member e h
-member_at n e [] is = cc
-member_at zero e (f ∷ h) is = inl cc
-member_at (suc n) e (f ∷ h) is = inr (member_at n e h is)
-
--- no reading is above this
-abbrev is_up_to : ℕ → Option ℕ → Bool
-is_up_to most None = true
-is_up_to most (Some reading) = nat_le reading most
-
-abbrev are_up_to : ℕ → History → Bool
-are_up_to most [] = true
-are_up_to most (e ∷ h) = is_up_to most e.reading && are_up_to most h
-
-both_true : (a b : Bool) → (a && b) ≡ true → (a ≡ true) × (b ≡ true)
-both_true true true is = (refl, refl)
-both_true true false is = cc
-both_true false b is = cc
-
-reads_up_to : (most : ℕ) (reading : Option ℕ) → is_up_to most reading ≡ true → ReadsUpTo most reading
-reads_up_to most None is = tt
-reads_up_to most (Some reading) is = leb-true reading most is
-
-all_up_to : (most : ℕ) (h : History) (e : Entry) → are_up_to most h ≡ true → Member e h → ReadsUpTo most e.reading
-all_up_to most [] e is m = absurd m
-all_up_to most (f ∷ h) e is m =
-    let both = both_true (is_up_to most f.reading) (are_up_to most h) is in
-    elim m [
-      | inl here ↦ rw here (reads_up_to most f.reading both.0)
-      | inr later ↦ all_up_to most h e both.1 later
-    ]
-
--- both lines that name a place name the one place
-on_tablet : (p : Place) → Member p (place ∷ place ∷ []) → p.tablet ≡ 0
-on_tablet p (inl is) = rw is refl
-on_tablet p (inr (inl is)) = rw is refl
-on_tablet p (inr (inr m)) = absurd m
+use Rattle.worked_cases.specs.Simulated.{no_fault, all_done}
+use Rattle.worked_cases.proofs.Tables.{tables}
+use Rattle.worked_cases.proofs.SettledCases.{left_settled}
+use Rattle.law_witness.specs.Scripts as scripts
+use Rattle.law_witness.specs.Scripts.{two_tablets, read_own, read_both, rows_inside, rows_of_two, kept, commit_again, lost, end_refused}
+use Rattle.law_witness.proofs.Simulated.{done_is_run}
+use Rattle.law_witness.proofs.Tests.{member_at, by_byte, one_home, read_at, is_read, commit_at, is_commit, skew_held}
 
 places_agree : PlacesAgree whole
-places_agree = λ p q at_p at_q same. rw (on_tablet p at_p, on_tablet q at_q) refl
+places_agree = one_home (λ part. 0) whole refl
 
 abbrev txn : CommittedTxn
 txn = record { txn = x; at = committed_at; writes = (record { path = doc; op = Put val }) ∷ [] }
@@ -79,9 +45,9 @@ is_finished : Member read (reads whole)
 unfolding reads
 is_finished = inl refl
 
-skew_held : SkewHeld small small.skew_us read
+skew : SkewHeld small small.skew_us read
 unfolding mover_at before_start begin_of reading_after
-skew_held = λ e m. all_up_to 1500000 done e refl m
+skew = skew_held small read refl
 
 was_known : Member txn (known small whole read)
 unfolding committed counting_before next_restart_kept writes sorted_by inserted_by mover_at before_start begin_of reading_after
@@ -94,7 +60,7 @@ shows_all = record {
   restarted = record { number = 0; mover = writer; kept = false; here = member_at 31 restarted whole refl };
   txn = txn;
   committed = is_committed;
-  read_again = record { read = read; finished = is_finished; again = refl; shows = refl; skew = skew_held; was_known = was_known };
+  read_again = record { read = read; finished = is_finished; again = refl; shows = refl; skew = skew; was_known = was_known };
   applied = record { number = 0; mover = applier; reading = late; time = Some late_at; here = member_at 5 applied whole refl };
 }
 
@@ -112,7 +78,7 @@ second_is_there = inl refl
 pub two_commit : TwoWritersCommit small both_done
 two_commit = record {
   run = run_of both_done both_done_allowed;
-  places = λ p q at_p at_q same. rw (on_tablet p at_p, on_tablet q at_q) refl;
+  places = one_home (λ part. 0) both_done refl;
   first = txn;
   second = second;
   first_committed = first_is_there;
@@ -120,3 +86,75 @@ two_commit = record {
   differ = λ same. omega (arith, same);
   related = refl;
 }
+
+-- the commit whose append fails, and the restart that keeps it
+abbrev failed : Entry
+failed =
+    entry status early (Serve writer (request.Commit x written_at (0 ∷ [])) (reply.Refused refusal.LogFault) (Some committed_at) Failed)
+
+abbrev kept_then : Entry
+kept_then = entry status None (Restarted reader true)
+
+pub kept_commit_stands : KeptCommitStands small (all_done small kept commit_again [])
+unfolding tables
+kept_commit_stands =
+    let h = all_done small kept commit_again [] in
+    let all = committed_snapshots h in
+    record {
+      run = done_is_run small kept commit_again refl refl;
+      places = one_home (λ part. 0) h refl;
+      txn = commit_at 0 all;
+      committed = is_commit 0 all refl;
+      append = record {
+        number = 0;
+        mover = writer;
+        reading = early;
+        floor = written_at;
+        tablets = 0 ∷ [];
+        failed = member_at 12 failed h refl;
+        restarter = reader;
+        kept = member_at 7 kept_then h refl;
+      };
+      told = refl;
+    }
+
+pub reads_inside : ReadsInside small (scripts.run_of small read_own) rows_inside
+unfolding tables
+reads_inside =
+    let h = scripts.run_of small read_own in
+    record {
+      run = done_is_run small no_fault read_own refl refl;
+      places = one_home (λ part. 0) h refl;
+      read = read_at 0 h;
+      finished = is_read 0 h refl;
+      txn = x + 1;
+      inside_txn = refl;
+      shows = refl;
+      skew = skew_held small (read_at 0 h) refl;
+    }
+
+pub reads_two_tablets : ReadsTwoTablets two_tablets (scripts.run_of two_tablets read_both) rows_of_two
+unfolding tables
+reads_two_tablets =
+    let h = scripts.run_of two_tablets read_both in
+    record {
+      run = done_is_run two_tablets no_fault read_both refl refl;
+      places = one_home by_byte h refl;
+      read = read_at 0 h;
+      finished = is_read 0 h refl;
+      tablets = refl;
+      again = refl;
+      shows = refl;
+      skew = skew_held two_tablets (read_at 0 h) refl;
+    }
+
+pub leaves_one : LeavesOne small (all_done small lost end_refused [])
+unfolding tables
+leaves_one =
+    let h = all_done small lost end_refused [] in
+    record {
+      run = done_is_run small lost end_refused refl refl;
+      places = one_home (λ part. 0) h refl;
+      told = refl;
+      settled = left_settled;
+    }

@@ -15,7 +15,8 @@ use Rattle.law_witness.specs.Witness.{small, late_at, x, tablet, status, write_r
 use Rattle.law_witness.specs.Branches.{put_again, listed_first, asking_late, promised, over_request, overwriting}
 use Rattle.law_witness.specs.Wrong as wrong
 use Rattle.law_witness.specs.Wrong.{RefusedAfter}
-use Rattle.law_witness.proofs.Allowed.{tables, run_of, last_allowed}
+use Rattle.worked_cases.proofs.Tables.{tables}
+use Rattle.law_witness.proofs.Allowed.{run_of, last_allowed}
 use Rattle.law_witness.proofs.Entries.{committing_allowed, listing_allowed, up_again_allowed, collecting_allowed, met_allowed, learned_allowed}
 use Rattle.law_witness.proofs.Branches.{put_again_allowed, listed_first_allowed, asking_late_allowed, promised_allowed, overwriting_allowed}
 

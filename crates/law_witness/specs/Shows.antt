@@ -1,19 +1,23 @@
 -- What the runs show: they meet the premises of the promises over all runs, and hold what these speak of.
-use Rattle.std.specs.Prelude.{◌≡◌, ℕ, Bool, true, List, Option, None}
+use Rattle.std.specs.Prelude.{◌≡◌, ℕ, Bool, true, List, [], ◌∷◌, Option, Some, None}
 use Rattle.txn_data.specs.declared.actor.Actor.{Actor}
-use Rattle.txn_data.specs.declared.actor.Actor.TheVariants.{Tablet, Status}
-use Rattle.txn_data.specs.declared.append.Append.TheVariants.{Took}
+use Rattle.txn_data.specs.declared.actor.Actor.TheVariants.{Tablet, Status, Applier}
+use Rattle.txn_data.specs.declared.append.Append.TheVariants.{Took, Failed}
 use Rattle.txn_data.specs.declared.committed_txn.CommittedTxn.{CommittedTxn}
 use Rattle.txn_data.specs.declared.config.Config.{Config}
 use Rattle.txn_data.specs.declared.event.Event.TheVariants.{Serve, Restarted}
 use Rattle.txn_data.specs.declared.reply.Reply.TheVariants as reply
+use Rattle.txn_data.specs.declared.refusal.Refusal.TheVariants as refusal
 use Rattle.txn_data.specs.declared.request.Request.TheVariants as request
 use Rattle.txn_data.specs.declared.row.Row.{Row}
+use Rattle.txn_data.specs.declared.told.Told.TheVariants as told
 use Rattle.txn_types.specs.Lists.{Member}
 use Rattle.txn_types.specs.History.{History}
 use Rattle.txn_types.specs.Committed.{committed_snapshots}
 use Rattle.txn_types.specs.Plan.{PlacesAgree}
-use Rattle.txn_types.specs.Reads.{Read, reads, known, related_writes, SkewHeld}
+use Rattle.txn_types.specs.Reads.{Read, reads, known, inside, line_of, places_asked, was_told, related_writes, SkewHeld}
+use Rattle.txn_types.specs.ReadProgram.{tablets_of}
+use Rattle.txn_types.specs.Settled.{Settled, last_told}
 use Rattle.txn_types.specs.Run.{Run}
 use Rattle.law_witness.specs.Witness.{entry}
 
@@ -62,3 +66,52 @@ pub record TwoWritersCommit (config : Config) (h : History) : Type 0 where
   pub second_committed : Member second (committed_snapshots h)
   pub differ : first.txn ≡ second.txn → ⊥
   pub related : related_writes first second ≡ true
+
+-- the append of a commit failed, at a status tablet that restarted and kept it
+pub record FailedAndKept (h : History) (x : CommittedTxn) : Type 0 where
+  pub number : ℕ
+  pub mover : Actor
+  pub reading : Option ℕ
+  pub floor : ℕ
+  pub tablets : List ℕ
+  pub failed : Member (entry (Status number) reading (Serve mover (request.Commit x.txn floor tablets) (reply.Refused refusal.LogFault) (Some x.at) Failed)) h
+  pub restarter : Actor
+  pub kept : Member (entry (Status number) None (Restarted restarter true)) h
+
+-- a run in which places agree, and a commit whose append failed and was kept stands and is told
+pub record KeptCommitStands (config : Config) (h : History) : Type 0 where
+  pub run : Run config h
+  pub places : PlacesAgree h
+  pub txn : CommittedTxn
+  pub committed : Member txn (committed_snapshots h)
+  pub append : FailedAndKept h txn
+  pub told : was_told h txn.txn ≡ true
+
+-- a run in which places agree, and a read inside a transaction finished with these rows
+pub record ReadsInside (config : Config) (h : History) (rows : List Row) : Type 0 where
+  pub run : Run config h
+  pub places : PlacesAgree h
+  pub read : Read
+  pub finished : Member read (reads h)
+  pub txn : ℕ
+  pub inside_txn : inside config read ≡ Some txn
+  pub shows : read.rows ≡ rows
+  pub skew : SkewHeld config config.skew_us read
+
+-- a run in which places agree, and a read over two tablets finished in its second round with these rows
+pub record ReadsTwoTablets (config : Config) (h : History) (rows : List Row) : Type 0 where
+  pub run : Run config h
+  pub places : PlacesAgree h
+  pub read : Read
+  pub finished : Member read (reads h)
+  pub tablets : tablets_of (places_asked (line_of config read)) ≡ 0 ∷ 1 ∷ []
+  pub again : read.restarts ≡ 1
+  pub shows : read.rows ≡ rows
+  pub skew : SkewHeld config config.skew_us read
+
+-- a run in which places agree, and the last pass over tablet 0 was told that one transaction is left, and just that is left
+pub record LeavesOne (config : Config) (h : History) : Type 0 where
+  pub run : Run config h
+  pub places : PlacesAgree h
+  pub told : last_told (Applier 0) h ≡ Some (told.Passed 0 0 1)
+  pub settled : Settled h 0 1

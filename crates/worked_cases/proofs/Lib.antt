@@ -1,3 +1,7 @@
-pub mod Simulated
+pub mod Tables
+pub mod Readings
 pub mod Cases
 pub mod ScheduleCases
+pub mod DrawnCases
+pub mod SettledCases
+pub mod NextCases

@@ -12,34 +12,22 @@ use Rattle.txn_data.specs.declared.go_line.GoLine.{GoLine}
 use Rattle.txn_data.specs.declared.mover.Mover.TheVariants as mover
 use Rattle.txn_data.specs.declared.config.Config.{Config}
 use Rattle.txn_data.specs.declared.schedule.Schedule.TheVariants.{Serial, Go}
-use Rattle.txn_types.specs.Lists.{inserted_by, sorted_by, with_number, rising}
-use Rattle.txn_types.specs.Writes.{last_word, with_path, paths_beneath, beneath}
-use Rattle.txn_types.specs.History.{History, next_restart_kept, counting_before}
-use Rattle.txn_types.specs.Committed.{writes, committed, fold_of}
-use Rattle.txn_types.specs.Clock.{last_time, has_given, lease_over, has_failed, down_since}
-use Rattle.txn_types.specs.Tablet.{provisional_over, with_version, with_versions, versions_over, home_in, first_fate, greatest_above, greatest_fate, writes_at, met_in}
-use Rattle.txn_types.specs.Status.{record_over, noted, is_sure}
-use Rattle.txn_types.specs.Program.{then_do}
-use Rattle.txn_types.specs.ReadProgram.{limit_of, ask_fates, row_of, rows_from, round_two, round_one}
-use Rattle.txn_types.specs.TxnProgram.{resolve_all}
-use Rattle.txn_types.specs.PassProgram.{pass_over}
-use Rattle.txn_types.specs.Session.{tablets_used, with_row, with_rows}
-use Rattle.txn_types.specs.Run.{mover_at, flight}
-use Rattle.txn_types.specs.Reads.{Read, reads, before_start, first_read_time, began_time, begin_of, reading_after, met_since, line_of, rows_asked, seen_by, final_time}
-use Rattle.txn_types.specs.Script.{moves, moves_by, passes_at, lines, commands_of, entries_of, count, in_line_order, from_up, entries_beside, named, go_on, to_their_ends, at_position, draw_on, number_at, reading_of}
-use Rattle.txn_types.specs.Cause.{tells}
-use Rattle.worked_cases.proofs.Simulated.{told_in, by_turns, all_done, no_fault}
+use Rattle.txn_types.specs.History.{History}
+use Rattle.txn_types.specs.Reads.{Read, reads, line_of, rows_asked, seen_by, final_time}
+use Rattle.txn_types.specs.Script.{moves, moves_by, passes_at}
+use Rattle.worked_cases.specs.Simulated.{told_in, by_turns, all_done, no_fault}
 use Rattle.worked_cases.proofs.Cases.{one, at, doc, val, on, txn}
+use Rattle.worked_cases.proofs.Tables.{tables}
 
 -- the plan of some sessions, with the number of each line's session and the lines that move a mover
-abbrev of_session : ℕ → List Command → SessionPlan
+abbrev pub of_session : ℕ → List Command → SessionPlan
 of_session i cs = record { session = i; commands = cs }
 
-abbrev goes : ℕ → ℕ → GoLine
+abbrev pub goes : ℕ → ℕ → GoLine
 goes i n = record { who = mover.Session i; count = n }
 
 -- the last pass over each of the tablets after everything else
-abbrev last_passes : Config → List ℕ → History → History
+abbrev pub last_passes : Config → List ℕ → History → History
 last_passes config ks h = all_done config no_fault (map (λ k. (Applier k, command.Apply k)) ks) h
 
 -- what the reads of a history told, and what they have to tell
@@ -56,7 +44,7 @@ abbrev times_due : Config → History → List ℕ
 times_due config h = map (final_time config) (reads h)
 
 -- a commit beside a status question: the commit is served first, and the read restarts at its time
-abbrev go_one : Config
+abbrev pub go_one : Config
 go_one = record one { schedule = Go }
 
 abbrev beside : Commands
@@ -74,19 +62,19 @@ beside_run = last_passes go_one (0 ∷ []) (by_turns go_one beside
 beside_told : told_in beside_run
     ≡ told.Began (txn 1 1) (at 0) ∷ told.Written (at 1) ∷ told.Committed (txn 1 1) (at 2)
     ∷ told.Values (at 2) 1 ((record { path = doc.path; value = Some (val 1) }) ∷ []) ∷ told.Passed 1 0 0 ∷ []
-unfolding inserted_by sorted_by with_number rising last_word with_path paths_beneath beneath next_restart_kept counting_before writes committed fold_of last_time has_given lease_over has_failed down_since provisional_over with_version with_versions versions_over home_in first_fate greatest_above greatest_fate writes_at met_in record_over noted is_sure then_do limit_of ask_fates row_of rows_from round_two round_one resolve_all pass_over tablets_used with_row with_rows mover_at flight reads before_start first_read_time began_time begin_of reading_after met_since lines commands_of entries_of count in_line_order from_up entries_beside named go_on to_their_ends at_position draw_on number_at reading_of tells
+unfolding tables
 beside_told = refl
 
 beside_moves : moves beside_run ≡ moves_by Go go_one beside beside_run ++ passes_at go_one beside_run 1
-unfolding inserted_by sorted_by with_number rising last_word with_path paths_beneath beneath next_restart_kept counting_before writes committed fold_of last_time has_given lease_over has_failed down_since provisional_over with_version with_versions versions_over home_in first_fate greatest_above greatest_fate writes_at met_in record_over noted is_sure then_do limit_of ask_fates row_of rows_from round_two round_one resolve_all pass_over tablets_used with_row with_rows mover_at flight reads before_start first_read_time began_time begin_of reading_after met_since lines commands_of entries_of count in_line_order from_up entries_beside named go_on to_their_ends at_position draw_on number_at reading_of tells
+unfolding tables
 beside_moves = refl
 
 beside_rows : rows_told beside_run ≡ rows_due go_one beside_run
-unfolding inserted_by sorted_by with_number rising last_word with_path paths_beneath beneath next_restart_kept counting_before writes committed fold_of last_time has_given lease_over has_failed down_since provisional_over with_version with_versions versions_over home_in first_fate greatest_above greatest_fate writes_at met_in record_over noted is_sure then_do limit_of ask_fates row_of rows_from round_two round_one resolve_all pass_over tablets_used with_row with_rows mover_at flight reads before_start first_read_time began_time begin_of reading_after met_since lines commands_of entries_of count in_line_order from_up entries_beside named go_on to_their_ends at_position draw_on number_at reading_of tells
+unfolding tables
 beside_rows = refl
 
 beside_times : times_told beside_run ≡ times_due go_one beside_run
-unfolding inserted_by sorted_by with_number rising last_word with_path paths_beneath beneath next_restart_kept counting_before writes committed fold_of last_time has_given lease_over has_failed down_since provisional_over with_version with_versions versions_over home_in first_fate greatest_above greatest_fate writes_at met_in record_over noted is_sure then_do limit_of ask_fates row_of rows_from round_two round_one resolve_all pass_over tablets_used with_row with_rows mover_at flight reads before_start first_read_time began_time begin_of reading_after met_since lines commands_of entries_of count in_line_order from_up entries_beside named go_on to_their_ends at_position draw_on number_at reading_of tells
+unfolding tables
 beside_times = refl
 
 -- with the question served first the commit has the same time, and the read does not see it
@@ -100,11 +88,11 @@ question_run = last_passes go_one (0 ∷ []) (by_turns go_one question
 question_told : told_in question_run
     ≡ told.Began (txn 1 1) (at 0) ∷ told.Written (at 1) ∷ told.Committed (txn 1 1) (at 2)
     ∷ told.Values (at 0) 0 ((record { path = doc.path; value = None }) ∷ []) ∷ told.Passed 1 0 0 ∷ []
-unfolding inserted_by sorted_by with_number rising last_word with_path paths_beneath beneath next_restart_kept counting_before writes committed fold_of last_time has_given lease_over has_failed down_since provisional_over with_version with_versions versions_over home_in first_fate greatest_above greatest_fate writes_at met_in record_over noted is_sure then_do limit_of ask_fates row_of rows_from round_two round_one resolve_all pass_over tablets_used with_row with_rows mover_at flight reads before_start first_read_time began_time begin_of reading_after met_since lines commands_of entries_of count in_line_order from_up entries_beside named go_on to_their_ends at_position draw_on number_at reading_of tells
+unfolding tables
 question_told = refl
 
 question_rows : rows_told question_run ≡ rows_due go_one question_run
-unfolding inserted_by sorted_by with_number rising last_word with_path paths_beneath beneath next_restart_kept counting_before writes committed fold_of last_time has_given lease_over has_failed down_since provisional_over with_version with_versions versions_over home_in first_fate greatest_above greatest_fate writes_at met_in record_over noted is_sure then_do limit_of ask_fates row_of rows_from round_two round_one resolve_all pass_over tablets_used with_row with_rows mover_at flight reads before_start first_read_time began_time begin_of reading_after met_since lines commands_of entries_of count in_line_order from_up entries_beside named go_on to_their_ends at_position draw_on number_at reading_of tells
+unfolding tables
 question_rows = refl
 
 -- three tablets: what the reader meets at one raises its time, and it visits all of them again
@@ -127,19 +115,19 @@ three_run = last_passes go_eight (0 ∷ 1 ∷ 2 ∷ 3 ∷ 4 ∷ 5 ∷ 6 ∷ 7 �
 three_rows : rows_told three_run
     ≡ ((record { path = (on 0 1).path; value = Some (val 9) }) ∷ (record { path = (on 6 2).path; value = Some (val 7) })
     ∷ (record { path = (on 7 3).path; value = None }) ∷ []) ∷ []
-unfolding inserted_by sorted_by with_number rising last_word with_path paths_beneath beneath next_restart_kept counting_before writes committed fold_of last_time has_given lease_over has_failed down_since provisional_over with_version with_versions versions_over home_in first_fate greatest_above greatest_fate writes_at met_in record_over noted is_sure then_do limit_of ask_fates row_of rows_from round_two round_one resolve_all pass_over tablets_used with_row with_rows mover_at flight reads before_start first_read_time began_time begin_of reading_after met_since lines commands_of entries_of count in_line_order from_up entries_beside named go_on to_their_ends at_position draw_on number_at reading_of tells
+unfolding tables
 three_rows = refl
 
 three_due : rows_told three_run ≡ rows_due go_eight three_run
-unfolding inserted_by sorted_by with_number rising last_word with_path paths_beneath beneath next_restart_kept counting_before writes committed fold_of last_time has_given lease_over has_failed down_since provisional_over with_version with_versions versions_over home_in first_fate greatest_above greatest_fate writes_at met_in record_over noted is_sure then_do limit_of ask_fates row_of rows_from round_two round_one resolve_all pass_over tablets_used with_row with_rows mover_at flight reads before_start first_read_time began_time begin_of reading_after met_since lines commands_of entries_of count in_line_order from_up entries_beside named go_on to_their_ends at_position draw_on number_at reading_of tells
+unfolding tables
 three_due = refl
 
 three_times : times_told three_run ≡ at 2 ∷ []
-unfolding inserted_by sorted_by with_number rising last_word with_path paths_beneath beneath next_restart_kept counting_before writes committed fold_of last_time has_given lease_over has_failed down_since provisional_over with_version with_versions versions_over home_in first_fate greatest_above greatest_fate writes_at met_in record_over noted is_sure then_do limit_of ask_fates row_of rows_from round_two round_one resolve_all pass_over tablets_used with_row with_rows mover_at flight reads before_start first_read_time began_time begin_of reading_after met_since lines commands_of entries_of count in_line_order from_up entries_beside named go_on to_their_ends at_position draw_on number_at reading_of tells
+unfolding tables
 three_times = refl
 
 three_moves : moves three_run ≡ moves_by Go go_eight three three_run ++ passes_at go_eight three_run 1
-unfolding inserted_by sorted_by with_number rising last_word with_path paths_beneath beneath next_restart_kept counting_before writes committed fold_of last_time has_given lease_over has_failed down_since provisional_over with_version with_versions versions_over home_in first_fate greatest_above greatest_fate writes_at met_in record_over noted is_sure then_do limit_of ask_fates row_of rows_from round_two round_one resolve_all pass_over tablets_used with_row with_rows mover_at flight reads before_start first_read_time began_time begin_of reading_after met_since lines commands_of entries_of count in_line_order from_up entries_beside named go_on to_their_ends at_position draw_on number_at reading_of tells
+unfolding tables
 three_moves = refl
 
 -- whole commands in line order
@@ -158,9 +146,9 @@ abbrev in_order_list : List Actor
 in_order_list = Session 1 ∷ Session 1 ∷ Session 2 ∷ Session 2 ∷ Session 2 ∷ Session 2 ∷ Session 2 ∷ Session 1 ∷ Session 1 ∷ Session 2 ∷ Session 2 ∷ Session 2 ∷ Session 2 ∷ Session 2 ∷ Applier 0 ∷ Applier 0 ∷ Applier 0 ∷ Applier 0 ∷ Applier 0 ∷ []
 
 in_order_moves : moves in_order_run ≡ in_order_list
-unfolding inserted_by sorted_by with_number rising last_word with_path paths_beneath beneath next_restart_kept counting_before writes committed fold_of last_time has_given lease_over has_failed down_since provisional_over with_version with_versions versions_over home_in first_fate greatest_above greatest_fate writes_at met_in record_over noted is_sure then_do limit_of ask_fates row_of rows_from round_two round_one resolve_all pass_over tablets_used with_row with_rows mover_at flight reads before_start first_read_time began_time begin_of reading_after met_since lines commands_of entries_of count in_line_order from_up entries_beside named go_on to_their_ends at_position draw_on number_at reading_of tells
+unfolding tables
 in_order_moves = refl
 
 in_order_serial : moves_by Serial one in_order in_order_run ++ passes_at one in_order_run 1 ≡ in_order_list
-unfolding inserted_by sorted_by with_number rising last_word with_path paths_beneath beneath next_restart_kept counting_before writes committed fold_of last_time has_given lease_over has_failed down_since provisional_over with_version with_versions versions_over home_in first_fate greatest_above greatest_fate writes_at met_in record_over noted is_sure then_do limit_of ask_fates row_of rows_from round_two round_one resolve_all pass_over tablets_used with_row with_rows mover_at flight reads before_start first_read_time began_time begin_of reading_after met_since lines commands_of entries_of count in_line_order from_up entries_beside named go_on to_their_ends at_position draw_on number_at reading_of tells
+unfolding tables
 in_order_serial = refl

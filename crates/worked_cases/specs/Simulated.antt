@@ -1,4 +1,4 @@
--- A plain simulation over the tables, for the worked cases.
+-- A plain simulation over the tables: the histories that scripts come to, one move after another.
 use Rattle.std.specs.Prelude.{ℕ, zero, suc, ◌+◌, Bool, true, false, ◌&&◌, List, [], ◌∷◌, Option, Some, None, nat_eq, length, drop, map, reverse}
 use Rattle.txn_data.specs.Time.{takes_time}
 use Rattle.txn_data.specs.declared.actor.Actor.{Actor}
@@ -13,11 +13,12 @@ use Rattle.txn_data.specs.declared.config.Config.{Config}
 use Rattle.txn_data.specs.declared.event.Event.{Event}
 use Rattle.txn_data.specs.declared.event.Event.TheVariants.{Start, Ask, Serve, Hear, Tell, Restarted}
 use Rattle.txn_data.specs.declared.entry.Entry.{Entry}
+use Rattle.txn_types.specs.Lists.{or_zero}
 use Rattle.txn_types.specs.History.{History, own, same_actor}
 use Rattle.txn_types.specs.Clock.{has_failed}
 use Rattle.txn_types.specs.Program as program
 use Rattle.txn_types.specs.Program.{Turn, turn_with}
-use Rattle.txn_types.specs.Run.{Mover, mover_at, flight, Quiet, Asked, Answered, machine_answer}
+use Rattle.txn_types.specs.Run.{Mover, Flight, mover_at, flight, Quiet, Asked, Answered, machine_answer}
 use Rattle.txn_types.specs.Session.{Opened}
 use Rattle.txn_types.specs.Script.{reading_of, node_of, lines, commands_of}
 use Rattle.txn_types.specs.Cause.{ToldAt, tells}
@@ -28,10 +29,6 @@ entry a reading event = record { actor = a; reading = reading; event = event }
 abbrev pub reading_for : Config → Actor → History → Bool → Option ℕ
 reading_for config a h true = Some (reading_of config (node_of config a) h)
 reading_for config a h false = None
-
-abbrev pub number_or_zero : Option ℕ → ℕ
-number_or_zero None = 0
-number_or_zero (Some n) = n
 
 -- one append that fails: that of the action with this number of this actor; and whether the restart after it keeps it
 pub record Fault : Type 0 where
@@ -50,7 +47,7 @@ abbrev pub serve : Config → Fault → Actor → Actor → Request → History 
 serve config f a from request.Restart h = entry a None (Restarted from (f.kept && has_failed (own a h))) ∷ h
 serve config f a from asked h =
     let reading = reading_for config a h (takes_time asked) in
-    let answer = machine_answer config.lease_us a (own a h) (fails_now f a h) (number_or_zero reading) asked in
+    let answer = machine_answer config.lease_us a (own a h) (fails_now f a h) (or_zero reading) asked in
     entry a reading (Serve from asked answer.reply answer.time answer.append) ∷ h
 
 abbrev pub turned : Config → Actor → Option ℕ → ℕ → Turn Told → History → History
@@ -58,19 +55,20 @@ turned config a reading number (program.Ask to asked) h = entry a reading (Ask t
 turned config a reading number (program.Tell t) h = entry a reading (Tell number t) ∷ h
 turned config a reading number program.Reading h = h
 
-abbrev pub next_turn : Config → Actor → Mover → Turn Told → History → History
-next_turn config a m program.Reading h =
+abbrev pub next_turn : Config → Actor → Mover → History → Turn Told → History
+next_turn config a m h program.Reading =
     let reading = Some (reading_of config (node_of config a) h) in
     turned config a reading m.commands (turn_with m.rest reading) h
-next_turn config a m t h = turned config a None m.commands t h
+next_turn config a m h t = turned config a None m.commands t h
 
--- one move of a mover whose command is under way
+-- one move of a mover whose command is under way, where this is the flight of its message
+abbrev pub move_in : Config → Fault → Actor → History → Flight → History
+move_in config f a h (Asked to asked) = serve config f to a asked h
+move_in config f a h (Answered from r) = entry a None (Hear from r) ∷ h
+move_in config f a h Quiet = let m = mover_at config a h in next_turn config a m h (turn_with m.rest None)
+
 abbrev pub move : Config → Fault → Actor → History → History
-move config f a h = elim (flight a h) [
-  | Asked to asked ↦ serve config f to a asked h
-  | Answered from r ↦ entry a None (Hear from r) ∷ h
-  | Quiet ↦ next_turn config a (mover_at config a h) (turn_with (mover_at config a h).rest None) h
-]
+move config f a h = move_in config f a h (flight a h)
 
 -- at most n moves, until the command is told
 abbrev pub moved : Config → Fault → Actor → ℕ → History → History
@@ -97,13 +95,14 @@ lines_left plan (Session i) h = drop (length (lines (Session i) h)) (commands_of
 lines_left plan (Applier k) h = command.Apply k ∷ []
 lines_left plan a h = []
 
+abbrev pub start_any : Config → Actor → Option Command → History → History
+start_any config a (Some line) h = start config a line h
+start_any config a None h = h
+
 abbrev pub event : Config → Commands → Actor → History → History
 event config plan a h = elim (mover_at config a h).line [
   | Some line ↦ move config no_fault a h
-  | None ↦ elim (next_line (mover_at config a h).keeps.opened (lines_left plan a h)) [
-    | Some line ↦ start config a line h
-    | None ↦ h
-  ]
+  | None ↦ start_any config a (next_line (mover_at config a h).keeps.opened (lines_left plan a h)) h
 ]
 
 -- a list of movers, each with how many events it goes on
