@@ -7,3 +7,4 @@ pub mod Branches
 pub mod Wrong
 pub mod Shows
 pub mod Needed
+pub mod Plan

@@ -8,7 +8,7 @@ use Rattle.txn_data.specs.declared.entry.Entry.{Entry}
 use Rattle.txn_data.specs.declared.place.Place.{Place}
 use Rattle.txn_types.specs.Lists.{Member}
 use Rattle.txn_types.specs.History.{History}
-use Rattle.txn_types.specs.Plan.{PlacesAgree, first_part, started_places}
+use Rattle.txn_types.specs.Plan.{OneTablet, PlacesAgree, first_part, started_places}
 use Rattle.txn_types.specs.Reads.{Read, ReadsUpTo, SkewHeld, reads, own_reading, origin}
 
 -- the entry after this many later ones
@@ -136,11 +136,13 @@ two_homes h p q at_p at_q same is agree =
     let one = eq-eqb p.tablet q.tablet (agree p q at_p at_q same) in
     cc
 
-pub one_home : (home : Option (List ℕ) → ℕ) (h : History) →
-    list_all (is_home home) (flat_map (λ (e : Entry). started_places e.event) h) ≡ true → PlacesAgree h
-one_home home h is = λ p q at_p at_q same.
-    let ps = flat_map (λ (e : Entry). started_places e.event) h in
+pub one_tablet : (home : Option (List ℕ) → ℕ) (ps : List Place) → list_all (is_home home) ps ≡ true → OneTablet ps
+one_tablet home ps is = λ p q at_p at_q same.
     let by_p = at_home home ps p is at_p in
     let by_q = at_home home ps q is at_q in
     let homes = ap home same in
     cc
+
+pub one_home : (home : Option (List ℕ) → ℕ) (h : History) →
+    list_all (is_home home) (flat_map (λ (e : Entry). started_places e.event) h) ≡ true → PlacesAgree h
+one_home home h is = one_tablet home (flat_map (λ (e : Entry). started_places e.event) h) is

@@ -19,7 +19,7 @@ Script = List (Actor × Command)
 abbrev pub run_of : Config → Script → History
 run_of config script = all_done config no_fault script []
 
--- clusters and places
+-- ## clusters, places and sessions
 
 -- two nodes, the second with this first reading; the status tablet and tablet 1 are on the second
 abbrev pub two_nodes : ℕ → Config
@@ -146,7 +146,19 @@ end_refused =
     (writer, command.Begin 0) ∷ (writer, command.Put place val) ∷ (writer, command.Commit) ∷ (writer, command.End)
     ∷ (reader, command.Restart (Status 0)) ∷ (applier, command.Apply 0) ∷ []
 
--- what those two reads show
+-- a plan of one session, which leaves a transaction open; so the session ends, and the last pass cleans its write
+abbrev pub one_session : Commands
+one_session = record {
+  sessions = (record { session = 1; commands = command.Begin 0 ∷ command.Put place val ∷ [] }) ∷ [];
+  order = 1 ∷ 1 ∷ [];
+  go = [];
+}
+
+abbrev pub in_order : Script
+in_order =
+    (writer, command.Begin 0) ∷ (writer, command.Put place val) ∷ (writer, command.End) ∷ (applier, command.Apply 0) ∷ []
+
+-- what the reads inside a transaction and over two tablets show
 abbrev pub row : Place → List ℕ → Row
 row p v = record { path = p.path; value = Some v }
 

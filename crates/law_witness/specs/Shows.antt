@@ -4,6 +4,7 @@ use Rattle.txn_data.specs.declared.actor.Actor.{Actor}
 use Rattle.txn_data.specs.declared.actor.Actor.TheVariants.{Tablet, Status, Applier}
 use Rattle.txn_data.specs.declared.append.Append.TheVariants.{Took, Failed}
 use Rattle.txn_data.specs.declared.committed_txn.CommittedTxn.{CommittedTxn}
+use Rattle.txn_data.specs.declared.commands.Commands.{Commands}
 use Rattle.txn_data.specs.declared.config.Config.{Config}
 use Rattle.txn_data.specs.declared.event.Event.TheVariants.{Serve, Restarted}
 use Rattle.txn_data.specs.declared.reply.Reply.TheVariants as reply
@@ -17,6 +18,7 @@ use Rattle.txn_types.specs.Committed.{committed_snapshots}
 use Rattle.txn_types.specs.Plan.{PlacesAgree}
 use Rattle.txn_types.specs.Reads.{Read, reads, known, inside, line_of, places_asked, was_told, related_writes, SkewHeld}
 use Rattle.txn_types.specs.ReadProgram.{tablets_of}
+use Rattle.txn_types.specs.Script.{IsRunnable, Whole, Scheduled}
 use Rattle.txn_types.specs.Settled.{Settled, last_told}
 use Rattle.txn_types.specs.Run.{Run}
 use Rattle.law_witness.specs.Witness.{entry}
@@ -115,3 +117,10 @@ pub record LeavesOne (config : Config) (h : History) : Type 0 where
   pub places : PlacesAgree h
   pub told : last_told (Applier 0) h ≡ Some (told.Passed 0 0 1)
   pub settled : Settled h 0 1
+
+-- a run that does all of a plan, in the order and with the readings of its schedule; the plan can be run
+pub record PlanIsDone (config : Config) (plan : Commands) (h : History) : Type 0 where
+  pub runnable : IsRunnable config plan
+  pub run : Run config h
+  pub whole : Whole config plan h
+  pub scheduled : Scheduled config plan h

@@ -1,8 +1,8 @@
-//! Runs that have what the laws speak of, and entries that no run has. A call does nothing.
+//! Runs that have what the laws speak of, runs that miss one premise, and entries that no run has. A call does nothing.
 ghost use Rattle.law_witness.specs.Branches.{both_done};
 ghost use Rattle.law_witness.specs.Needed.{NotFreshBeyondSkew, MissesLaterCommit, OneTabletIsNeeded, SingleNotApart, RelatedWritesAreNeeded};
-ghost use Rattle.law_witness.specs.Scripts.{run_of, read_beside, question_first, lost, end_refused, kept, commit_again, read_own, rows_inside, two_tablets, read_both, rows_of_two, beyond_skew, beyond_skew_script, single_after};
-ghost use Rattle.law_witness.specs.Shows.{ShowsAll, TwoWritersCommit, KeptCommitStands, ReadsInside, ReadsTwoTablets, LeavesOne};
+ghost use Rattle.law_witness.specs.Scripts.{run_of, one_session, in_order, read_beside, question_first, lost, end_refused, kept, commit_again, read_own, rows_inside, two_tablets, read_both, rows_of_two, beyond_skew, beyond_skew_script, single_after};
+ghost use Rattle.law_witness.specs.Shows.{ShowsAll, TwoWritersCommit, KeptCommitStands, ReadsInside, ReadsTwoTablets, LeavesOne, PlanIsDone};
 ghost use Rattle.law_witness.specs.Witness.{small, whole, rows};
 ghost use Rattle.law_witness.specs.Wrong.{WrongEntriesAreRefused};
 ghost use Rattle.std.specs.Prelude.{[]};
@@ -44,6 +44,11 @@ pub fn a_read_over_two_tablets_restarts()
 /// and just that is left.
 pub fn a_transaction_is_left()
     ensures { LeavesOne small (all_done small lost end_refused []) }
+{}
+
+/// This run does all of a plan that can be run, in the order and with the readings of its schedule.
+pub fn a_plan_is_done()
+    ensures { PlanIsDone small one_session (run_of small in_order) }
 {}
 
 /// In this run places agree, but clocks do not agree within the skew before a read. The read is not fresh: a related commit

@@ -9,7 +9,7 @@
 mod laws;
 
 pub use laws::{
-    a_kept_commit_stands, a_read_inside_finishes, a_read_over_two_tablets_restarts,
+    a_kept_commit_stands, a_plan_is_done, a_read_inside_finishes, a_read_over_two_tablets_restarts,
     a_run_shows_all, a_transaction_is_left, freshness_needs_a_told_commit,
     freshness_needs_the_skew, only_related_writes_differ, only_transactions_are_apart,
     promises_need_one_tablet, two_writers_commit, wrong_entries_are_refused,

@@ -15,13 +15,9 @@ use Rattle.txn_types.specs.History.{History}
 use Rattle.txn_types.specs.Script.{Scheduled, ReadingsAsTold, moves, moves_by, passes_at}
 use Rattle.worked_cases.specs.Simulated.{entry, told_in, by_turns, all_done, no_fault}
 use Rattle.worked_cases.proofs.Tables.{tables}
-use Rattle.worked_cases.proofs.Readings.{as_told}
+use Rattle.worked_cases.proofs.Scheduled.{as_told, by_schedule}
 use Rattle.worked_cases.proofs.Cases.{one, at, doc, val, on, txn}
 use Rattle.worked_cases.proofs.ScheduleCases.{of_session, goes, last_passes, go_one}
-
--- the moves of the schedule, and then those of the last passes
-in_order : {all first last due due_last : List Actor} → all ≡ first ++ last → due ≡ first → due_last ≡ last → all ≡ due ++ due_last
-in_order are by ends = rw by (rw ends are)
 
 differ : (a b : ℕ) → nat_eq a b ≡ false → a ≡ b → ⊥
 differ a b is same = let equal = eq-eqb a b same in cc
@@ -80,7 +76,7 @@ unfolding tables
 drawn_readings = as_told drawn_one drawn_run refl
 
 drawn_scheduled : Scheduled drawn_one drawn drawn_run
-drawn_scheduled = record { order = in_order drawn_moves drawn_by drawn_last; readings = drawn_readings }
+drawn_scheduled = record { order = by_schedule drawn_moves drawn_by drawn_last; readings = drawn_readings }
 
 -- ## two rounds of passes over two tablets, in the serial schedule
 
@@ -132,7 +128,7 @@ unfolding tables
 two_rounds_readings = as_told two_rounds two_rounds_run refl
 
 two_rounds_scheduled : Scheduled two_rounds writing two_rounds_run
-two_rounds_scheduled = record { order = in_order two_rounds_moves two_rounds_by two_rounds_last; readings = two_rounds_readings }
+two_rounds_scheduled = record { order = by_schedule two_rounds_moves two_rounds_by two_rounds_last; readings = two_rounds_readings }
 
 -- ## a clock between the start of another session's read and its first request
 
@@ -169,7 +165,7 @@ unfolding tables
 clock_readings = as_told go_one clock_run refl
 
 clock_scheduled : Scheduled go_one clock_within clock_run
-clock_scheduled = record { order = in_order clock_moves clock_by clock_last; readings = clock_readings }
+clock_scheduled = record { order = by_schedule clock_moves clock_by clock_last; readings = clock_readings }
 
 -- the reading before the clock stands in the first request of the read: that is not as it was told
 abbrev early_request : History

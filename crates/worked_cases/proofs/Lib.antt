@@ -1,5 +1,5 @@
 pub mod Tables
-pub mod Readings
+pub mod Scheduled
 pub mod Cases
 pub mod ScheduleCases
 pub mod DrawnCases

@@ -33,7 +33,7 @@ unfolding tables
 left_last = refl
 
 -- what holds of the one element of a list
-only : {A : Type 0} (P : A → Type 0) (x : A) → P x → (y : A) → Member y (x ∷ []) → P y
+pub only : {A : Type 0} (P : A → Type 0) (x : A) → P x → (y : A) → Member y (x ∷ []) → P y
 only P x holds y (inl here) = subst P (sym here) holds
 only P x holds y (inr none) = absurd none
 

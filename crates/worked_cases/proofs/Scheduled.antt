@@ -1,6 +1,7 @@
--- Whether readings are as they were told, by a test that computes.
-use Rattle.std.proofs.Common.{◌≡◌, ℕ, Bool, true, ◌&&◌, [], ◌∷◌, Option, Some, None, nat_eq}
+-- Whether readings are as they were told, by a test that computes, and moves those of a schedule, by what each part comes to.
+use Rattle.std.proofs.Common.{◌≡◌, ℕ, Bool, true, ◌&&◌, [], ◌∷◌, Option, Some, None, nat_eq, List, ◌++◌}
 use Rattle.std.proofs.lemmas.Bool.{eqb-true, and_parts}
+use Rattle.txn_data.specs.declared.actor.Actor.{Actor}
 use Rattle.txn_data.specs.declared.config.Config.{Config}
 use Rattle.txn_types.specs.History.{History}
 use Rattle.txn_types.specs.Script.{ReadsRight, ReadingsAsTold, reading_of, node_of}
@@ -24,3 +25,7 @@ as_told config (e ∷ h) is =
     let now = reading_of config (node_of config e.actor) h in
     let parts = and_parts (readings_fit config h) (is_right now e.reading) is in
     (as_told config h parts.0, right now e.reading parts.1)
+
+-- the moves of the schedule, and then those of the last passes
+pub by_schedule : {all first last due due_last : List Actor} → all ≡ first ++ last → due ≡ first → due_last ≡ last → all ≡ due ++ due_last
+by_schedule are by ends = rw by (rw ends are)
