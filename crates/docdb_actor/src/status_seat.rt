@@ -1,7 +1,7 @@
 //! A status tablet by hand.
 ghost use Rattle.std.specs.Prelude.{◌≡◌, ◌≤◌, true, []};
 ghost use Rattle.txn_types.specs.Machine.{FewTablets};
-ghost use Rattle.status_tablet.specs.Rows.{IsStatusRequest};
+ghost use Rattle.status_tablet.specs.Decisions.{IsStatusRequest};
 
 use crate::unanswered::Unanswered;
 use docdb_outside::MemLog;

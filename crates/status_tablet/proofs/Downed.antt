@@ -16,7 +16,7 @@ use Rattle.leased_log.specs.Decides.{IsPlain}
 use Rattle.status_tablet.specs.declared.mark.Mark.TheVariants as mark
 use Rattle.status_tablet.specs.Keeps.{kept_of}
 use Rattle.status_tablet.specs.Stands.{StatusState}
-use Rattle.status_tablet.specs.Rows.{IsUpRequest, Says}
+use Rattle.status_tablet.specs.Decisions.{IsUpRequest, Says}
 
 plain_answer : (lease : ℕ) (h : History) (fails : Bool) (reading : ℕ) (asked : Request) → IsPlain asked
     → status_answer lease h fails reading asked ≡ status_standing (down_since h) (status_up lease h fails reading asked)

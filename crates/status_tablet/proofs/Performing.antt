@@ -1,5 +1,5 @@
 -- What is done leaves the status tablet standing for its entries with one more.
-use Rattle.std.proofs.Common.{◌≡◌, ℕ, ◌+◌, ◌≤◌, suc, Bool, cond, List, [], ◌∷◌, ◌++◌, length, Option, Some, None, refl, sym, ap, subst, ◌∙◌, arith}
+use Rattle.std.proofs.Common.{◌≡◌, ℕ, ◌≤◌, suc, Bool, cond, List, [], ◌∷◌, ◌++◌, length, Option, Some, None, refl, sym, ap, subst, ◌∙◌, arith}
 use Rattle.std.specs.Prelude.{option_to_list}
 use Rattle.std.specs.List.{fold}
 use Rattle.docdb_outside.specs.Count.{Rose}
@@ -35,10 +35,10 @@ use Rattle.leased_log.proofs.Parts.{down_same, none_of_or}
 use Rattle.leased_log.proofs.Advancing.{IsServed, served_by, advances_by}
 use Rattle.leased_log.proofs.Holding.{holds_after, acts_loads, acts_faults}
 use Rattle.status_tablet.specs.declared.txn_record.TxnRecord.{TxnRecord}
-use Rattle.status_tablet.specs.declared.row.Row.{Row}
+use Rattle.status_tablet.specs.declared.status_decision.StatusDecision.{StatusDecision}
 use Rattle.status_tablet.specs.Keeps.{kept_at, kept_of, kept_with, marked}
 use Rattle.status_tablet.specs.Stands.{StatusState, Stands}
-use Rattle.status_tablet.specs.Rows.{event_of, record_with, StaysItself, ServesBy, Says, IsDone, IsUndone, out_of_memory}
+use Rattle.status_tablet.specs.Decisions.{event_of, record_with, StaysItself, ServesBy, Says, IsDone, IsUndone, out_of_memory}
 use Rattle.status_tablet.specs.Restarts.{IfRestarted}
 
 -- what the laws of the crates below say
@@ -98,20 +98,20 @@ not_restarted : (r : Reply) (asked : Request) → IsServed r → IfRestarted r (
 not_restarted (reply.Restarted kept) asked served = absurd served
 not_restarted r asked served = tt
 
-module _ (law : Replayed) (still : Still) (old new : StatusState) (row : Row) (s : Served) (done : IsDone old new row s) where
-  fault_rose : IsTold row.decision.reply → s.reply ≡ reply.Refused refusal.LogFault → Rose old.log.faults new.log.faults
+module _ (law : Replayed) (still : Still) (old new : StatusState) (decided : StatusDecision) (s : Served) (done : IsDone old new decided s) where
+  fault_rose : IsTold decided.decision.reply → s.reply ≡ reply.Refused refusal.LogFault → Rose old.log.faults new.log.faults
   fault_rose told is =
-      let rose : Rose done.middle.faults new.log.faults = fault_by done.middle new.log row.decision s.append done.acts.by told (sym done.acts.reply ∙ is) in
+      let rose : Rose done.middle.faults new.log.faults = fault_by done.middle new.log decided.decision s.append done.acts.by told (sym done.acts.reply ∙ is) in
       let more : old.log.faults ≤ done.middle.faults = done.same.faults in
       omega arith
 
-  is_served : IsTold row.decision.reply → IsServed s.reply
-  is_served told = subst IsServed (sym done.acts.reply) (served_by s.append row.decision.reply told)
+  is_served : IsTold decided.decision.reply → IsServed s.reply
+  is_served told = subst IsServed (sym done.acts.reply) (served_by s.append decided.decision.reply told)
 
-  not_memory : IsTold row.decision.reply → s.reply ≡ reply.Refused refusal.Memory → ⊥
+  not_memory : IsTold decided.decision.reply → s.reply ≡ reply.Refused refusal.Memory → ⊥
   not_memory told is = subst IsServed is (is_served told)
 
-  module _ (from : Actor) (reading : Option ℕ) (asked : Request) (says : Says old (reading_used (takes_time asked) reading) asked row)
+  module _ (from : Actor) (reading : Option ℕ) (asked : Request) (says : Says old (reading_used (takes_time asked) reading) asked decided)
       (bytes : List ℕ) (faults : ℕ) (h : History) (st : Stands old bytes faults h) where
     abbrev used : Option ℕ
     used = reading_used (takes_time asked) reading
@@ -122,12 +122,12 @@ module _ (law : Replayed) (still : Still) (old new : StatusState) (row : Row) (s
     middle_stands : log.Stands (Status old.status) done.middle bytes faults h
     middle_stands = still old.log done.middle done.same (Status old.status) bytes faults h st.log
 
-    decides : Decides old.log.clock.lease (Status old.status) h used asked row.decision
+    decides : Decides old.log.clock.lease (Status old.status) h used asked decided.decision
     decides = says.decides bytes faults h st
 
-    made : Done (Status old.status) done.middle new.log bytes faults h used from asked row.decision s
+    made : Done (Status old.status) done.middle new.log bytes faults h used from asked decided.decision s
     made = done.does (Status old.status) bytes faults h used from asked middle_stands
-        (subst (λ (l : ℕ). Decides l (Status old.status) h used asked row.decision) (sym same_lease) decides)
+        (subst (λ (l : ℕ). Decides l (Status old.status) h used asked decided.decision) (sym same_lease) decides)
 
     abbrev after : History
     after = entry (Status old.status) used from asked s ∷ h
@@ -151,12 +151,12 @@ module _ (law : Replayed) (still : Still) (old new : StatusState) (row : Row) (s
     records_next : down_since after ≡ None → (x : ℕ) → kept_at new.records x ≡ kept_of (record_of x after) (noted x after) (is_sure x after)
     records_next up x =
         let went = went_if up in
-        let ev = event_is done.middle new.log row.decision s from asked done.acts went in
+        let ev = event_is done.middle new.log decided.decision s from asked done.acts went in
         done.records x
-        ∙ ap (λ (k : Option TxnRecord). marked row.mark x (kept_with row.decision.own x k)) (st.records (up_before up) x)
+        ∙ ap (λ (k : Option TxnRecord). marked decided.mark x (kept_with decided.decision.own x k)) (st.records (up_before up) x)
         ∙ says.changes from x (record_of x h) (noted x h) (is_sure x h)
-        ∙ ap (λ (r : Record). kept_of r (noted_after x (noted x h) (event_of from asked row.decision)) (sure_after x (is_sure x h) (event_of from asked row.decision)))
-        (sym (record_next law done.middle.clock.lease x h after row.decision (made.records went)))
+        ∙ ap (λ (r : Record). kept_of r (noted_after x (noted x h) (event_of from asked decided.decision)) (sure_after x (is_sure x h) (event_of from asked decided.decision)))
+        (sym (record_next law done.middle.clock.lease x h after decided.decision (made.records went)))
         ∙ ap (λ (e : Event). kept_of (record_of x after) (noted_after x (noted x h) e) (sure_after x (is_sure x h) e)) (sym ev)
         ∙ ap (λ (ns : List ℕ). kept_of (record_of x after) ns (sure_after x (is_sure x h) (Serve from asked s.reply s.time s.append))) (sym (noted_next x))
         ∙ ap (λ (b : Bool). kept_of (record_of x after) (noted x after) b) (sym (sure_next x))
@@ -170,21 +170,21 @@ module _ (law : Replayed) (still : Still) (old new : StatusState) (row : Row) (s
       records = records_next;
     }
 
-  advances : (from : Actor) (reading : Option ℕ) (asked : Request) → Says old (reading_used (takes_time asked) reading) asked row
+  advances : (from : Actor) (reading : Option ℕ) (asked : Request) → Says old (reading_used (takes_time asked) reading) asked decided
       → Advances (Stands old) (Stands new) old.log.clock.lease (Status old.status) from reading asked s.reply s
   advances from reading asked says =
       advances_by (Stands old) (Stands new) old.log.clock.lease (Status old.status) from reading asked s.reply s.time s.append s.copy
       (is_served says.told)
       (λ bytes faults h st. (serves_now from reading asked says bytes faults h st, stands_now from reading asked says bytes faults h st))
 
-  pub performs : (from : Actor) (reading : Option ℕ) (asked : Request) → Says old (reading_used (takes_time asked) reading) asked row → ServesBy old new from reading asked s
+  pub performs : (from : Actor) (reading : Option ℕ) (asked : Request) → Says old (reading_used (takes_time asked) reading) asked decided → ServesBy old new from reading asked s
   performs from reading asked says = record {
     advances = advances from reading asked says;
     fault = fault_rose says.told;
     memory = λ is. absurd (not_memory says.told is);
     restart = not_restarted s.reply asked (is_served says.told);
-    loads = λ plain. acts_loads done.middle new.log row.decision s done.acts ∙ done.counts.loads;
-    faults = λ plain none. acts_faults done.middle new.log row.decision s done.acts none ∙ done.counts.faults;
+    loads = λ plain. acts_loads done.middle new.log decided.decision s done.acts ∙ done.counts.loads;
+    faults = λ plain none. acts_faults done.middle new.log decided.decision s done.acts none ∙ done.counts.faults;
   }
 
 pub undone : Still → (old new : StatusState) → IsUndone old new → (bytes : List ℕ) (faults : ℕ) (h : History) → Stands old bytes faults h → Stands new bytes faults h
@@ -202,11 +202,11 @@ acts_lease Nothing old new d t = ap (λ (c : ClockState). c.lease) t.clock ∙ l
 acts_lease Took old new d t = ap (λ (c : ClockState). c.lease) t.clock ∙ lease_after old.clock d.step
 acts_lease Failed old new d t = ap (λ (c : ClockState). c.lease) t.clock
 
-pub stays_done : (old new : StatusState) (row : Row) (s : Served) → IsDone old new row s → StaysItself old new s
-stays_done old new row s done = record {
+pub stays_done : (old new : StatusState) (decided : StatusDecision) (s : Served) → IsDone old new decided s → StaysItself old new s
+stays_done old new decided s done = record {
   status = done.status;
-  lease = acts_lease s.append done.middle new.log row.decision done.acts.by ∙ ap (λ (c : ClockState). c.lease) done.same.clock;
-  held = holds_after old.log done.middle new.log row.decision s done.same done.acts done.spelled;
+  lease = acts_lease s.append done.middle new.log decided.decision done.acts.by ∙ ap (λ (c : ClockState). c.lease) done.same.clock;
+  held = holds_after old.log done.middle new.log decided.decision s done.same done.acts done.spelled;
   copy = done.acts.copy;
 }
 

@@ -21,7 +21,7 @@ use Rattle.status_tablet.specs.declared.txn_record.TxnRecord.{TxnRecord}
 use Rattle.status_tablet.specs.declared.txn_record.TxnRecord.TheVariants as kept
 use Rattle.status_tablet.specs.Keeps.{kept_of, kept_after, names_none}
 use Rattle.status_tablet.specs.Stands.{StatusState, Stands}
-use Rattle.status_tablet.specs.Rows.{StaysItself}
+use Rattle.status_tablet.specs.Decisions.{StaysItself}
 use Rattle.status_tablet.specs.Restarts.{IsRebuilt, StartsAgain, StaysUnloaded, restarted_with, not_loaded}
 use Rattle.status_tablet.proofs.Table.{waiting_all}
 use Rattle.status_tablet.proofs.Performing.{Replayed, Still}

@@ -1,4 +1,4 @@
--- What the table says where the rows decide.
+-- What the table says where the table decides.
 use Rattle.std.proofs.Common.{◌≡◌, ℕ, Bool, true, false, cond, ◌||◌, nat_eq, List, [], ◌∷◌, Option, Some, None, Ok, refl, sym, ap, ◌∙◌}
 use Rattle.std.specs.Prelude.{is_some, option_map}
 use Rattle.txn_data.specs.declared.fate.Fate.{Fate}
@@ -16,7 +16,7 @@ use Rattle.status_tablet.specs.declared.txn_record.TxnRecord.TheVariants as kept
 use Rattle.status_tablet.specs.declared.mark.Mark.TheVariants as mark
 use Rattle.status_tablet.specs.Keeps.{kept_at, names_none, kept_of, fate_kept, forgets, told, without}
 use Rattle.status_tablet.specs.Stands.{StatusState, Stands}
-use Rattle.status_tablet.specs.Rows.{Says, IsPending}
+use Rattle.status_tablet.specs.Decisions.{Says, IsPending}
 use Rattle.status_tablet.proofs.Table.{fate_same, waiting_all, waiting_more, forgets_same}
 
 up_of : (s : StatusState) (bytes : List ℕ) (faults : ℕ) (h : History) → Stands s bytes faults h → s.log.down ≡ None → down_since h ≡ None

@@ -6,7 +6,7 @@ use Rattle.txn_data.specs.declared.request.Request.{Request}
 use Rattle.txn_data.specs.declared.served.Served.{Served}
 use Rattle.txn_types.specs.Machine.{Advances}
 use Rattle.status_tablet.specs.Stands.{StatusState, Stands}
-use Rattle.status_tablet.specs.Rows.{ServesBy}
+use Rattle.status_tablet.specs.Decisions.{ServesBy}
 
 -- a request that takes no reading is served alike whether one is given or not
 pub with_reading : (old new : StatusState) (from : Actor) (reading : Option ℕ) (asked : Request) (s : Served) → ServesBy old new from None asked s

@@ -1,4 +1,4 @@
--- What the rows of the table read off what is kept.
+-- What decisions read off what is kept.
 use Rattle.std.proofs.Common.{◌≡◌, ℕ, Bool, true, false, cond, not, ◌&&◌, ◌||◌, nat_eq, filter, List, [], ◌∷◌, refl, ap, ◌∙◌}
 use Rattle.std.specs.List.{list_all}
 use Rattle.txn_types.specs.Lists.{has_number}

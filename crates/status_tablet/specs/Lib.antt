@@ -1,5 +1,5 @@
 pub mod Keeps
 pub mod Stands
-pub mod Rows
+pub mod Decisions
 pub mod Restarts
 pub mod Laws

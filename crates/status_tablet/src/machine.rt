@@ -2,7 +2,7 @@
 ghost use Rattle.std.specs.Prelude.{◌≡◌, ◌<◌, ◌^◌, ◌↔◌, ℕ, List, length};
 ghost use Rattle.txn_data.specs.Time.{takes_time};
 ghost use Rattle.txn_types.specs.Machine.{FewTablets, ReadingGiven};
-ghost use Rattle.status_tablet.specs.Rows.{IsStatusRequest, StaysItself, ServesBy};
+ghost use Rattle.status_tablet.specs.Decisions.{IsStatusRequest, StaysItself, ServesBy};
 ghost use Rattle.status_tablet.specs.Restarts.{IfRestarted, IsRebuilt};
 
 use crate::status_tablet::StatusTablet;
@@ -12,7 +12,7 @@ use txn_types::{Actor, Machine, Request, Served};
 impl<L: LogStore> Machine for StatusTablet<L> {
     ghost use Rattle.txn_data.specs.declared.actor.Actor.TheVariants.{Status};
     ghost use Rattle.status_tablet.specs.Stands.{Stands};
-    ghost use Rattle.status_tablet.specs.Rows.{IsStatusRequest};
+    ghost use Rattle.status_tablet.specs.Decisions.{IsStatusRequest};
 
     ghost actor = { λ s. Status s.status };
 

@@ -4,10 +4,10 @@ ghost use Rattle.txn_data.specs.declared.request.Request.TheVariants as request;
 ghost use Rattle.safe_time.specs.ActorClock.{at_first};
 ghost use Rattle.leased_log.specs.Acts.{SameCounts};
 ghost use Rattle.status_tablet.specs.Stands.{Stands};
-ghost use Rattle.status_tablet.specs.Rows.{StaysItself, ServesBy, Performs, CarriesOut, IsDone, IsUndone, is_spelled, out_of_memory};
+ghost use Rattle.status_tablet.specs.Decisions.{StaysItself, ServesBy, Performs, CarriesOut, IsDone, IsUndone, is_spelled, out_of_memory};
 ghost use Rattle.status_tablet.specs.Restarts.{IfRestarted, IsRebuilt, StartsAgain, StaysUnloaded, restarted_with, not_loaded};
 
-use crate::row::Row;
+use crate::status_decision::StatusDecision;
 use crate::txn_records::TxnRecords;
 use docdb_base::Memory;
 use docdb_outside::{LoadFault, LogStore};
@@ -79,8 +79,8 @@ impl<L: LogStore> StatusTablet<L> {
         ensures stays { StaysItself self.old self.new result }
         ensures serves { ServesBy self.old self.new _from None (request.Begin txn isolation priority) result }
     {
-        let row = self.begin_row(txn, isolation, priority);
-        self.perform(row)
+        let decided = self.decide_begin(txn, isolation, priority);
+        self.perform(decided)
     }
 
     /// Tells what became of a transaction, at a time that is not below `t`; `reading` is in microseconds.
@@ -89,8 +89,8 @@ impl<L: LogStore> StatusTablet<L> {
         ensures stays { StaysItself self.old self.new result }
         ensures serves { ServesBy self.old self.new _from (Some reading) (request.AskFate txn t) result }
     {
-        let row = self.ask_row(txn, t, reading);
-        self.perform(row)
+        let decided = self.decide_ask(txn, t, reading);
+        self.perform(decided)
     }
 
     /// Aborts a pending transaction of a lower priority than that of `by`.
@@ -99,8 +99,8 @@ impl<L: LogStore> StatusTablet<L> {
         ensures stays { StaysItself self.old self.new result }
         ensures serves { ServesBy self.old self.new _from None (request.Resolve txn by priority) result }
     {
-        let row = self.resolve_row(txn, by, priority);
-        self.perform(row)
+        let decided = self.decide_resolve(txn, by, priority);
+        self.perform(decided)
     }
 
     /// Commits a pending transaction above `floor`; these tablets accepted its writes. `reading` is in microseconds.
@@ -117,8 +117,8 @@ impl<L: LogStore> StatusTablet<L> {
         ensures stays { StaysItself self.old self.new result }
         ensures serves { ServesBy self.old self.new _from (Some reading) (request.Commit txn floor tablets.now) result }
     {
-        match self.commit_row(txn, floor, tablets, reading) {
-            Ok(row) => self.perform(row),
+        match self.decide_commit(txn, floor, tablets, reading) {
+            Ok(decided) => self.perform(decided),
             Err(_) => want_of_memory(),
         }
     }
@@ -129,8 +129,8 @@ impl<L: LogStore> StatusTablet<L> {
         ensures stays { StaysItself self.old self.new result }
         ensures serves { ServesBy self.old self.new _from None (request.Abort txn) result }
     {
-        let row = self.abort_row(txn);
-        self.perform(row)
+        let decided = self.decide_abort(txn);
+        self.perform(decided)
     }
 
     /// A tablet has applied a transaction.
@@ -139,8 +139,8 @@ impl<L: LogStore> StatusTablet<L> {
         ensures stays { StaysItself self.old self.new result }
         ensures serves { ServesBy self.old self.new _from None (request.Applied txn tablet) result }
     {
-        let row = self.applied_row(txn, tablet);
-        self.perform(row)
+        let decided = self.decide_applied(txn, tablet);
+        self.perform(decided)
     }
 
     /// Loads its log, and starts again from what it holds.
@@ -177,43 +177,43 @@ impl<L: LogStore> StatusTablet<L> {
         Ok(self.log.restart(&records))
     }
 
-    /// Serves a request by the row that its table has while the status tablet is up. While it is down it refuses.
-    fn perform(&mut self, row: Row) -> Served
+    /// Serves a request by what its table decides while the status tablet is up. While it is down it refuses.
+    fn perform(&mut self, decided: StatusDecision) -> Served
         requires room { self.old.log.actions < 2 ^ 62 }
-        requires spelled { IsTrue (is_spelled row.decision.own) }
+        requires spelled { IsTrue (is_spelled decided.decision.own) }
         ensures stays { StaysItself self.old self.new result }
-        ensures performs { Performs self.old self.new row result }
+        ensures performs { Performs self.old self.new decided result }
     {
         match self.log.down() {
-            Some(since) => self.carry_out(Row::down(since)),
-            None => self.carry_out(row),
+            Some(since) => self.carry_out(StatusDecision::down(since)),
+            None => self.carry_out(decided),
         }
     }
 
-    /// Does what a row comes to. If memory runs out, all is as before.
-    fn carry_out(&mut self, row: Row) -> Served
+    /// Does what was decided. If memory runs out, all is as before.
+    fn carry_out(&mut self, decided: StatusDecision) -> Served
         requires room { self.old.log.actions < 2 ^ 62 }
-        requires spelled { IsTrue (is_spelled row.decision.own) }
+        requires spelled { IsTrue (is_spelled decided.decision.own) }
         ensures stays { StaysItself self.old self.new result }
-        ensures carries_out { CarriesOut self.old self.new row result }
+        ensures carries_out { CarriesOut self.old self.new decided result }
     {
         the_same_log_stands();
         a_serve_is_logged();
         a_status_tablet_is_replayed();
-        match self.try_to_carry_out(row) {
+        match self.try_to_carry_out(decided) {
             Ok(served) => served,
             Err(_) => want_of_memory(),
         }
     }
 
-    fn try_to_carry_out(&mut self, row: Row) -> Result<Served, Memory>
+    fn try_to_carry_out(&mut self, decided: StatusDecision) -> Result<Served, Memory>
         requires room { self.old.log.actions < 2 ^ 62 }
-        requires spelled { IsTrue (is_spelled row.decision.own) }
-        ensures done { IfOk result (λ served. IsDone self.old self.new row served) }
+        requires spelled { IsTrue (is_spelled decided.decision.own) }
+        ensures done { IfOk result (λ served. IsDone self.old self.new decided served) }
         ensures memory { OnErr result (IsUndone self.old self.new) }
         ensures counts { OnErr result (SameCounts self.old.log self.new.log) }
     {
-        let Row { decision, mark } = row;
+        let StatusDecision { decision, mark } = decided;
         let action = self.log.ready(decision)?;
         self.records.take_in(action.own(), mark)?;
         Ok(self.log.act(action))

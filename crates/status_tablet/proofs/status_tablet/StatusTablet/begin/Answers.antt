@@ -3,4 +3,4 @@ use Rattle.txn_data.specs.declared.request.Request.TheVariants as request
 use Rattle.status_tablet.proofs.status_tablet.StatusTablet.begin.Goals as goal
 
 pub returns-clause-serves : goal.returns-clause-serves
-returns-clause-serves g c = c.perform.ensures.performs c.args._from None (request.Begin c.args.txn c.args.isolation c.args.priority) (tt, tt, refl) c.begin_row-row.ensures.says
+returns-clause-serves g c = c.perform.ensures.performs c.args._from None (request.Begin c.args.txn c.args.isolation c.args.priority) (tt, tt, refl) c.decide_begin-decided.ensures.says

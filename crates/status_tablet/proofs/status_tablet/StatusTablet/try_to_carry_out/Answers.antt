@@ -18,6 +18,6 @@ returns-clause-done g c = rw (← c.self.view_is) (record {
   does = subst (λ (d : Decision). Does c.ready.new.self c.act.new.self d c.act.result) c.in_ok-action.ensures.ready c.act.ensures.does;
   status = refl;
   records = λ x. c.in_ok-take_in.ensures.ok x
-      ∙ ap (λ (o : Option LogRecord). marked c.args.row.mark x (kept_with o x (kept_at c.self.inside.records.map.entries x)))
+      ∙ ap (λ (o : Option LogRecord). marked c.args.decided.mark x (kept_with o x (kept_at c.self.inside.records.map.entries x)))
       (c.own.ensures ∙ ap (λ (d : Decision). d.own) c.in_ok-action.ensures.ready);
 })

@@ -1,11 +1,11 @@
-//! The rows of the table: what each request comes to while the status tablet is up. They change nothing.
+//! What the table decides of each request while the status tablet is up. Nothing is changed.
 ghost use Rattle.std.specs.Prelude.{◌≡◌, ◌≤◌, Some, None, IsTrue, IfOk, length, option_copied};
 ghost use Rattle.txn_data.specs.declared.request.Request.TheVariants as request;
 ghost use Rattle.status_tablet.specs.Keeps.{fate_kept, yields, forgets};
-ghost use Rattle.status_tablet.specs.Rows.{IsPending, Says, is_spelled};
+ghost use Rattle.status_tablet.specs.Decisions.{IsPending, Says, is_spelled};
 
 use crate::mark::Mark;
-use crate::row::Row;
+use crate::status_decision::StatusDecision;
 use crate::status_tablet::StatusTablet;
 use crate::txn_record::TxnRecord;
 use docdb_base::{Memory, TryCopy};
@@ -18,7 +18,12 @@ use txn_types::{Fate, Isolation, Reply, Tablets, TxnId};
 
 impl<L: LogStore> StatusTablet<L> {
     /// A record of the transaction is made.
-    pub(crate) fn begin_row(&self, txn: TxnId, isolation: Isolation, priority: u32) -> Row
+    pub(crate) fn decide_begin(
+        &self,
+        txn: TxnId,
+        isolation: Isolation,
+        priority: u32,
+    ) -> StatusDecision
         ensures says { self.now.log.down ≡ None → Says self.now None (request.Begin txn isolation priority) result }
         ensures spelled { IsTrue (is_spelled result.decision.own) }
     {
@@ -27,18 +32,18 @@ impl<L: LogStore> StatusTablet<L> {
             isolation,
             priority,
         };
-        Row::plain(Decision::log(own, Reply::Begun))
+        StatusDecision::plain(Decision::log(own, Reply::Begun))
     }
 
     /// The fate is told at a time that is not below `t`.
-    pub(crate) fn ask_row(&self, txn: TxnId, t: HybridTime, reading: u64) -> Row
+    pub(crate) fn decide_ask(&self, txn: TxnId, t: HybridTime, reading: u64) -> StatusDecision
         ensures says { self.now.log.down ≡ None → Says self.now (Some reading) (request.AskFate txn t) result }
         ensures spelled { IsTrue (is_spelled result.decision.own) }
     {
         it_is_the_clock_of_the_tables();
         match self.log.step(reading, t, false) {
-            Err(refusal) => Row::plain(Decision::refuse(refusal_of(refusal))),
-            Ok(step) => Row::plain(Decision {
+            Err(refusal) => StatusDecision::plain(Decision::refuse(refusal_of(refusal))),
+            Ok(step) => StatusDecision::plain(Decision {
                 reply: Reply::FateIs(fate_of(self.records.get(txn))),
                 step: Some(step),
                 own: None,
@@ -47,56 +52,56 @@ impl<L: LogStore> StatusTablet<L> {
     }
 
     /// A transaction of a lower priority is aborted; else its fate is told.
-    pub(crate) fn resolve_row(&self, txn: TxnId, by: TxnId, priority: u32) -> Row
+    pub(crate) fn decide_resolve(&self, txn: TxnId, by: TxnId, priority: u32) -> StatusDecision
         ensures says { self.now.log.down ≡ None → Says self.now None (request.Resolve txn by priority) result }
         ensures spelled { IsTrue (is_spelled result.decision.own) }
     {
         if yields(self.records.get(txn), priority) {
             let own = LogRecord::Abort { txn, by: Some(by) };
-            Row::plain(Decision::log(own, Reply::FateIs(Fate::Aborted)))
+            StatusDecision::plain(Decision::log(own, Reply::FateIs(Fate::Aborted)))
         } else {
             let fate = fate_of(self.records.get(txn));
-            Row::plain(Decision::tell(Reply::FateIs(fate)))
+            StatusDecision::plain(Decision::tell(Reply::FateIs(fate)))
         }
     }
 
     /// A pending transaction commits at the next time; else its end is told.
-    pub(crate) fn commit_row(
+    pub(crate) fn decide_commit(
         &self,
         txn: TxnId,
         floor: HybridTime,
         tablets: &Tablets,
         reading: u64,
-    ) -> Result<Row, Memory>
+    ) -> Result<StatusDecision, Memory>
         requires { length tablets.now ≤ 64 }
-        ensures says { self.now.log.down ≡ None → IfOk result (λ row. Says self.now (Some reading) (request.Commit txn floor tablets.now) row) }
-        ensures spelled { IfOk result (λ row. IsTrue (is_spelled row.decision.own)) }
+        ensures says { self.now.log.down ≡ None → IfOk result (λ decided. Says self.now (Some reading) (request.Commit txn floor tablets.now) decided) }
+        ensures spelled { IfOk result (λ decided. IsTrue (is_spelled decided.decision.own)) }
     {
         match self.records.get(txn) {
-            None => Ok(Row::plain(Decision::tell(Reply::Gone))),
+            None => Ok(StatusDecision::plain(Decision::tell(Reply::Gone))),
             Some(TxnRecord::Aborted { by }) => {
-                Ok(Row::plain(Decision::tell(Reply::AbortedBy { by: *by })))
+                Ok(StatusDecision::plain(Decision::tell(Reply::AbortedBy { by: *by })))
             }
-            Some(TxnRecord::Committed(commit)) => Ok(Row::told(txn, commit.at)),
-            Some(TxnRecord::Pending { .. }) => self.new_commit_row(txn, floor, tablets, reading),
+            Some(TxnRecord::Committed(commit)) => Ok(StatusDecision::told(txn, commit.at)),
+            Some(TxnRecord::Pending { .. }) => self.decide_new_commit(txn, floor, tablets, reading),
         }
     }
 
-    fn new_commit_row(
+    fn decide_new_commit(
         &self,
         txn: TxnId,
         floor: HybridTime,
         tablets: &Tablets,
         reading: u64,
-    ) -> Result<Row, Memory>
+    ) -> Result<StatusDecision, Memory>
         requires { length tablets.now ≤ 64 }
-        ensures says { IsPending self.now txn → self.now.log.down ≡ None → IfOk result (λ row. Says self.now (Some reading) (request.Commit txn floor tablets.now) row) }
-        ensures spelled { IfOk result (λ row. IsTrue (is_spelled row.decision.own)) }
+        ensures says { IsPending self.now txn → self.now.log.down ≡ None → IfOk result (λ decided. Says self.now (Some reading) (request.Commit txn floor tablets.now) decided) }
+        ensures spelled { IfOk result (λ decided. IsTrue (is_spelled decided.decision.own)) }
     {
         it_is_the_clock_of_the_tables();
         match self.log.step(reading, floor, true) {
-            Err(refusal) => Ok(Row::plain(Decision::refuse(refusal_of(refusal)))),
-            Ok(step) => Ok(Row {
+            Err(refusal) => Ok(StatusDecision::plain(Decision::refuse(refusal_of(refusal)))),
+            Ok(step) => Ok(StatusDecision {
                 decision: Decision {
                     reply: Reply::Committed { at: step.time },
                     step: Some(step),
@@ -112,29 +117,32 @@ impl<L: LogStore> StatusTablet<L> {
     }
 
     /// A transaction that did not commit goes; of one that did the time is told.
-    pub(crate) fn abort_row(&self, txn: TxnId) -> Row
+    pub(crate) fn decide_abort(&self, txn: TxnId) -> StatusDecision
         ensures says { self.now.log.down ≡ None → Says self.now None (request.Abort txn) result }
         ensures spelled { IsTrue (is_spelled result.decision.own) }
     {
         match self.records.get(txn) {
-            None => Row::plain(Decision::tell(Reply::Ended)),
-            Some(TxnRecord::Committed(commit)) => Row::told(txn, commit.at),
-            Some(_) => Row::plain(Decision::log(LogRecord::Abort { txn, by: None }, Reply::Ended)),
+            None => StatusDecision::plain(Decision::tell(Reply::Ended)),
+            Some(TxnRecord::Committed(commit)) => StatusDecision::told(txn, commit.at),
+            Some(_) => StatusDecision::plain(Decision::log(
+                LogRecord::Abort { txn, by: None },
+                Reply::Ended,
+            )),
         }
     }
 
     /// The tablet is noted, and a commit that may go goes.
-    pub(crate) fn applied_row(&self, txn: TxnId, tablet: u32) -> Row
+    pub(crate) fn decide_applied(&self, txn: TxnId, tablet: u32) -> StatusDecision
         ensures says { self.now.log.down ≡ None → Says self.now None (request.Applied txn tablet) result }
         ensures spelled { IsTrue (is_spelled result.decision.own) }
     {
         let mark = Mark::Applied { txn, tablet };
         if forgets(self.records.get(txn), tablet) {
             let decision = Decision::log(LogRecord::Forget { txn }, Reply::Noted);
-            Row { decision, mark }
+            StatusDecision { decision, mark }
         } else {
             let decision = Decision::tell(Reply::Noted);
-            Row { decision, mark }
+            StatusDecision { decision, mark }
         }
     }
 }

@@ -1,4 +1,4 @@
--- What a row of the table of a status tablet comes to: a decision, and what is kept in no log.
+-- What a status tablet decides of a request: a decision, and what it keeps in no log.
 use Rattle.std.specs.Prelude.{◌≡◌, ℕ, Bool, true, List, Option, Some, None, if◌then◌else◌}
 use Rattle.std.specs.List.{AllByRecursion}
 use Rattle.docdb_outside.specs.Count.{Rose}
@@ -26,7 +26,7 @@ use Rattle.leased_log.specs.declared.decision.Decision.{Decision}
 use Rattle.leased_log.specs.Stands.{LogState, IsSame}
 use Rattle.leased_log.specs.Acts.{HoldsAfter, SameCounts, Acts}
 use Rattle.leased_log.specs.Decides.{time_of, records_for, logs, IsPlain, IsTold, Decides, Does}
-use Rattle.status_tablet.specs.declared.row.Row.{Row}
+use Rattle.status_tablet.specs.declared.status_decision.StatusDecision.{StatusDecision}
 use Rattle.status_tablet.specs.declared.txn_record.TxnRecord.TheVariants as kept
 use Rattle.status_tablet.specs.Keeps.{kept_at, kept_of, kept_with, marked}
 use Rattle.status_tablet.specs.Stands.{StatusState, Stands}
@@ -60,17 +60,17 @@ is_spelled None = true
 is_spelled (Some own) = has_spelling own
 
 -- the records change as the entry has it
-abbrev pub Changes : Request → Row → Type 0
-Changes asked row =
+abbrev pub Changes : Request → StatusDecision → Type 0
+Changes asked decided =
     (from : Actor) (x : ℕ) (r : Record) (ns : List ℕ) (sure : Bool)
-    → marked row.mark x (kept_with row.decision.own x (kept_of r ns sure))
-    ≡ kept_of (record_with row.decision.own x r) (noted_after x ns (event_of from asked row.decision)) (sure_after x sure (event_of from asked row.decision))
+    → marked decided.mark x (kept_with decided.decision.own x (kept_of r ns sure))
+    ≡ kept_of (record_with decided.decision.own x r) (noted_after x ns (event_of from asked decided.decision)) (sure_after x sure (event_of from asked decided.decision))
 
 -- the table says so of this request, whatever entries the status tablet stands for
-pub record Says (s : StatusState) (reading : Option ℕ) (asked : Request) (row : Row) : Type 0 where
-  pub told : IsTold row.decision.reply
-  pub decides : (bytes : List ℕ) (faults : ℕ) (h : History) → Stands s bytes faults h → Decides s.log.clock.lease (Status s.status) h reading asked row.decision
-  pub changes : Changes asked row
+pub record Says (s : StatusState) (reading : Option ℕ) (asked : Request) (decided : StatusDecision) : Type 0 where
+  pub told : IsTold decided.decision.reply
+  pub decides : (bytes : List ℕ) (faults : ℕ) (h : History) → Stands s bytes faults h → Decides s.log.clock.lease (Status s.status) h reading asked decided.decision
+  pub changes : Changes asked decided
 
 abbrev pub IsPending : StatusState → ℕ → Type 0
 IsPending s x = (priority : ℕ) × (kept_at s.records x ≡ Some (kept.Pending priority))
@@ -108,24 +108,24 @@ pub record ServesBy (old new : StatusState) (from : Actor) (reading : Option ℕ
   pub loads : IsPlain asked → new.log.loads ≡ old.log.loads
   pub faults : IsPlain asked → s.append ≡ Nothing → new.log.faults ≡ old.log.faults
 
--- a row that the table says is served by the table
-abbrev pub CarriesOut : StatusState → StatusState → Row → Served → Type 0
-CarriesOut old new row s =
-    (from : Actor) (reading : Option ℕ) (asked : Request) → Says old (reading_used (takes_time asked) reading) asked row → ServesBy old new from reading asked s
+-- a decision that the table says is served by the table
+abbrev pub CarriesOut : StatusState → StatusState → StatusDecision → Served → Type 0
+CarriesOut old new decided s =
+    (from : Actor) (reading : Option ℕ) (asked : Request) → Says old (reading_used (takes_time asked) reading) asked decided → ServesBy old new from reading asked s
 
--- so is a row that the table says while the status tablet is up, of a request that is no restart
-abbrev pub Performs : StatusState → StatusState → Row → Served → Type 0
-Performs old new row s =
+-- so is a decision that the table says while the status tablet is up, of a request that is no restart
+abbrev pub Performs : StatusState → StatusState → StatusDecision → Served → Type 0
+Performs old new decided s =
     (from : Actor) (reading : Option ℕ) (asked : Request) → IsUpRequest (reading_used (takes_time asked) reading) asked
-    → (old.log.down ≡ None → Says old (reading_used (takes_time asked) reading) asked row) → ServesBy old new from reading asked s
+    → (old.log.down ≡ None → Says old (reading_used (takes_time asked) reading) asked decided) → ServesBy old new from reading asked s
 
 -- the records are ready for the action: its own record and its mark are taken in
-pub record IsDone (old new : StatusState) (row : Row) (s : Served) : Type 0 where
+pub record IsDone (old new : StatusState) (decided : StatusDecision) (s : Served) : Type 0 where
   pub middle : LogState
   pub same : IsSame old.log middle
   pub counts : SameCounts old.log middle
-  pub spelled : AllByRecursion IsRecord (records_for row.decision)
-  pub acts : Acts middle new.log row.decision s
-  pub does : Does middle new.log row.decision s
+  pub spelled : AllByRecursion IsRecord (records_for decided.decision)
+  pub acts : Acts middle new.log decided.decision s
+  pub does : Does middle new.log decided.decision s
   pub status : new.status ≡ old.status
-  pub records : (x : ℕ) → kept_at new.records x ≡ marked row.mark x (kept_with row.decision.own x (kept_at old.records x))
+  pub records : (x : ℕ) → kept_at new.records x ≡ marked decided.mark x (kept_with decided.decision.own x (kept_at old.records x))
