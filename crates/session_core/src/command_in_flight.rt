@@ -35,7 +35,10 @@ impl CommandInFlight {
     ghost use Rattle.session_core.specs.CommandInFlight.{IsSound, limits_under};
 
     /// A command that starts. A write in the open transaction has room then.
-    pub(crate) fn start(state: &mut SessionState, command: &Command) -> Result<CommandInFlight, Memory>
+    pub(crate) fn start(
+        state: &mut SessionState,
+        command: &Command,
+    ) -> Result<CommandInFlight, Memory>
         requires serial { state.old.serial < 2 ^ 63 }
         requires written { written state.old.transaction < 2 ^ 32 }
         requires places { has_few_places command.now ≡ true }

@@ -7,10 +7,10 @@ ghost use Rattle.session_core.specs.CommandInFlight.{busy, IsSound, FitsIn};
 ghost use Rattle.session_core.specs.Work.{is_reading};
 ghost use Rattle.session_core.specs.declared.command_in_flight.CommandInFlight.{CommandInFlight};
 
+use crate::command_in_flight::CommandInFlight;
 use crate::session_state::SessionState;
 use crate::starting::timed_work;
 use crate::turn::Turn;
-use crate::command_in_flight::CommandInFlight;
 use crate::work::Work;
 use docdb_base::Memory;
 use hybrid_time::{HybridTime, at_least};
@@ -184,7 +184,11 @@ impl SessionCore {
     }
 
     // What comes next in a command. Where it asks, its first request has this reading.
-    fn go_on(&mut self, mut in_flight: CommandInFlight, reading: Option<u64>) -> Result<Turn, Memory>
+    fn go_on(
+        &mut self,
+        mut in_flight: CommandInFlight,
+        reading: Option<u64>,
+    ) -> Result<Turn, Memory>
         requires idle { is_idle self.old ≡ true }
         requires serial { self.old.state.serial < self.old.commands }
         requires writes { written self.old.state.transaction < self.old.commands }

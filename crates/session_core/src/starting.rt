@@ -13,8 +13,8 @@ ghost use Rattle.session_core.specs.SessionState.{keeps, IsOf};
 ghost use Rattle.session_core.specs.Lines.{clocked, has_few_places};
 ghost use Rattle.session_core.specs.Work.{work_rest, timed, is_reading, limits_now};
 
-use crate::session_state::SessionState;
 use crate::open_txn::OpenTxn;
+use crate::session_state::SessionState;
 use crate::work::Work;
 use docdb_base::{Memory, TryCopy};
 use hybrid_time::{HybridTime, limit};

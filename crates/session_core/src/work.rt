@@ -222,7 +222,11 @@ fn next_of_read(
 }
 
 // What a read is told: its rows beneath the own writes of its transaction, or why there are none.
-fn read_told(line: &Command, transaction: &mut Option<OpenTxn>, end: ReadEnd) -> Result<Told, Memory>
+fn read_told(
+    line: &Command,
+    transaction: &mut Option<OpenTxn>,
+    end: ReadEnd,
+) -> Result<Told, Memory>
     ensures told { IfOk result (λ told. told ≡ ended (opened_if transaction.old) line.now end) }
     ensures room { OnErr result (end_takes_room end.what ≡ true) }
     ensures same { opened_if transaction.new ≡ opened_if transaction.old }
