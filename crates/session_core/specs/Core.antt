@@ -23,12 +23,18 @@ use Rattle.session_core.specs.declared.command_in_flight.CommandInFlight.{Comman
 unfoldable pub mover : Config → SessionCore → Mover
 mover config c = mover_on config c.state.session (state.keeps c.state) c.commands c.in_flight
 
--- its number, its node, and how many commands it began
+-- its number, its node, its status tablet, the most by which clocks differ, and how many commands it began
 abbrev pub number_of : SessionCore → ℕ
 number_of c = c.state.session
 
 abbrev pub node_of : SessionCore → ℕ
 node_of c = c.node
+
+abbrev pub status_of : SessionCore → ℕ
+status_of c = c.state.status
+
+abbrev pub skew_of : SessionCore → ℕ
+skew_of c = c.state.skew_us
 
 abbrev pub commands_of : SessionCore → ℕ
 commands_of c = c.commands

@@ -38,7 +38,7 @@ impl SessionCore {
     ghost use Rattle.txn_types.specs.Run.{idle, mover_after};
     ghost use Rattle.session_core.specs.SessionState.{keeps};
     ghost use Rattle.session_core.specs.Mover.{within};
-    ghost use Rattle.session_core.specs.Core.{mover, number_of, node_of, session_of, commands_of, IsOf, IsNamed};
+    ghost use Rattle.session_core.specs.Core.{mover, number_of, node_of, status_of, skew_of, session_of, commands_of, IsOf, IsNamed};
     ghost use Rattle.session_core.specs.Core.{is_idle, wants_reading, awaits_reply, reads, Went, Answered, StandsAfter};
 
     /// A session that starts: its number, its node, the status tablet of its transactions, and the most by which clocks
@@ -52,7 +52,7 @@ impl SessionCore {
     ) -> Result<SessionCore, Memory>
         requires { skew_us ≤ 10000000 }
         ensures mover { (config : Config) → IfOk result (λ core. mover config core ≡ idle) }
-        ensures named { IfOk result (λ core. (number_of core ≡ session) × (node_of core ≡ node)) }
+        ensures named { IfOk result (λ core. (number_of core ≡ session) × (node_of core ≡ node) × (status_of core ≡ status) × (skew_of core ≡ skew_us)) }
         ensures of { (config : Config) → status ≡ session % config.status → skew_us ≡ config.skew_us → IfOk result (λ core. IsOf config core) }
         ensures stands { IfOk result (λ core. is_idle core ≡ true) }
         ensures commands { IfOk result (λ core. commands_of core ≡ 0) }

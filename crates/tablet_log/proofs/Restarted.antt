@@ -4,7 +4,6 @@ use Rattle.std.proofs.lemmas.Bool.{eq-eqb}
 use Rattle.std.proofs.lemmas.List.{append-nil}
 use Rattle.txn_data.specs.declared.actor.Actor.{Actor}
 use Rattle.txn_data.specs.declared.actor.Actor.TheVariants.{Tablet, Status, Session, Applier}
-use Rattle.txn_data.specs.declared.append.Append.{Append}
 use Rattle.txn_data.specs.declared.append.Append.TheVariants.{Nothing, Took, Failed}
 use Rattle.txn_data.specs.declared.request.Request.{Request}
 use Rattle.txn_data.specs.declared.reply.Reply.{Reply}
@@ -12,9 +11,9 @@ use Rattle.txn_data.specs.declared.event.Event.{Event}
 use Rattle.txn_data.specs.declared.event.Event.TheVariants.{Start, Ask, Serve, Hear, Tell, Restarted}
 use Rattle.txn_data.specs.declared.entry.Entry.{Entry}
 use Rattle.txn_types.specs.History.{History, same_actor, kept_by, next_restart_kept, event_counts, counting_before, counting}
-use Rattle.txn_types.specs.Clock.{has_failed, lease_over, lease_end}
+use Rattle.txn_types.specs.Clock.{has_failed}
 use Rattle.log_record.specs.declared.log_record.LogRecord.{LogRecord}
-use Rattle.tablet_log.specs.Entries.{records_of, logged_over, logged_records, failed_records}
+use Rattle.tablet_log.specs.Entries.{logged_over, logged_records, failed_records}
 use Rattle.tablet_log.specs.Rests.{IsStill, IsStillWhere, RestsDown, if_kept}
 
 abbrev entry : Actor → Option ℕ → Event → Entry
