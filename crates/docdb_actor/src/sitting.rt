@@ -1,4 +1,6 @@
 //! The actor at hand, and its lines.
+ghost use Rattle.std.specs.Prelude.{◌<◌};
+
 use crate::opening::opened;
 use crate::seated::Seated;
 use crate::unanswered::Unanswered;
