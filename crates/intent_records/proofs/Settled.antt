@@ -1,5 +1,5 @@
--- A search that goes on behind all records of a transaction at a path, once one of them settles it.
-use Rattle.std.proofs.Common.{◌≡◌, ℕ, ◌<◌, ◌≤◌, Bool, true, false, ◌&&◌, ◌||◌, not, List, [], ◌∷◌, Option, Some, None, length, refl, sym, ap, subst, ◌∙◌, arith, nat_eq, if◌then◌else◌}
+-- A search that goes from record to record, and behind all records of a transaction at a path once it is settled there.
+use Rattle.std.proofs.Common.{◌≡◌, ℕ, ◌<◌, ◌≤◌, Bool, true, false, ◌&&◌, ◌||◌, not, List, [], ◌∷◌, Option, Some, length, refl, sym, ap, subst, ◌∙◌, arith, nat_eq, All}
 use Rattle.std.specs.Prelude.{filter, cond}
 use Rattle.std.specs.List.{AllByRecursion}
 use Rattle.std.specs.List.Sorted.{IsStrictlySortedBy}
@@ -12,8 +12,9 @@ use Rattle.std.specs.declared.ops.Bound.TheVariants.{Included, Excluded, Unbound
 use Rattle.std.specs.Ordering.{is_le, is_lt, is_gt, nat_cmp, ordering_then, ordering_reverse}
 use Rattle.std.proofs.lemmas.Bool.Decides.{nat_tests}
 use Rattle.std.proofs.lemmas.Cmp.{tied_itself, upto}
+use Rattle.std.proofs.lemmas.List.Elements.{All-head, filter_passes}
 use Rattle.std.proofs.lemmas.List.Kept.{IsStrictlySortedBy-filter}
-use Rattle.std.proofs.lemmas.Map.Keys.{sorted_head, sorted_tail}
+use Rattle.std.proofs.lemmas.Map.Keys.{sorted_head}
 use Rattle.std.proofs.lemmas.Map.Lookups.{exact_unsigned}
 use Rattle.doc_path.specs.Path.{Parts, path_order}
 use Rattle.txn_types.specs.Tablet.{is_own}
@@ -21,7 +22,7 @@ use Rattle.intent_records.specs.declared.primary_record.PrimaryRecord.{PrimaryRe
 use Rattle.intent_records.specs.declared.record_key.RecordKey.{RecordKey}
 use Rattle.intent_records.specs.KeyOrder.{path_order_total, key_order_total}
 use Rattle.intent_records.specs.Keys.{key_order}
-use Rattle.intent_records.specs.Search.{asks, settles, first_settled, hit, in_time}
+use Rattle.intent_records.specs.Search.{asks, settles, hit, in_time}
 
 -- the greatest key of its transaction on its path, where positions go up to m
 abbrev pub last_alike : ℕ → RecordKey → RecordKey
@@ -123,7 +124,7 @@ asks-settles own_txn until x wrote = by (is_own own_txn x) (in_time until wrote)
 abbrev told : Option ℕ → ℕ → ℕ → Bool
 told own_txn x n = not (is_own own_txn n) && nat_eq n x
 
--- behind the first record that settles its transaction at its path there is nothing else to find of it there
+-- what is passed over behind a record, of its transaction at its path, tells of no other transaction
 alike-found : (m : ℕ) (own_txn until : Option ℕ) (x : ℕ) (k : RecordKey) (es : List (RecordKey × PrimaryRecord)) → AllByRecursion (λ (q : RecordKey). key_order k q ≡ Less) (keys_of es)
     → (told own_txn x k.txn || hit (λ q. true) own_txn until x es)
     ≡ (told own_txn x k.txn || hit (λ q. true) own_txn until x (behind m k es))
@@ -149,47 +150,6 @@ alike-found m own_txn until x k (e ∷ es) after = by (alike-found m own_txn unt
         let P : ℕ → Type 0 = λ n. (told own_txn x k.txn || ((asks own_txn until n e.1.wrote && nat_eq n x) || hit (λ q. true) own_txn until x es)) ≡ (told own_txn x k.txn || hit (λ q. true) own_txn until x (behind m k es)) in
         subst P (alike m k e.0 after.0 is) (same (is_own own_txn k.txn) (in_time until e.1.wrote) (nat_eq k.txn x) _ _ rest)
 
-pub settled-found : (m : ℕ) (own_txn until : Option ℕ) (x : ℕ) (k : RecordKey) (es : List (RecordKey × PrimaryRecord)) → k.position ≤ m → IsStrictlySortedBy key_order (keys_of es)
-    → first_settled own_txn until es ≡ Some k
-    → hit (λ q. true) own_txn until x es ≡ (told own_txn x k.txn || hit (λ q. true) own_txn until x (behind m k es))
-settled-found m own_txn until x k [] within sorted is = cc
-settled-found m own_txn until x k (e ∷ es) within sorted is =
-    by (settled-found m own_txn until x k es within (sorted_tail key_order e.0 (keys_of es) sorted)) (settles own_txn until e.0.txn e.1.wrote) refl is
-  where
-    -- what a record that settles nothing adds
-    nothing : (b : Bool) (a c : List (RecordKey × PrimaryRecord)) → asks own_txn until e.0.txn e.1.wrote ≡ false → hit (λ q. true) own_txn until x (cond b (e ∷ c) c) ≡ hit (λ q. true) own_txn until x c
-    nothing true a c none = ap (λ h. (h && nat_eq e.0.txn x) || hit (λ q. true) own_txn until x c) none
-    nothing false a c none = refl
-
-    by : (first_settled own_txn until es ≡ Some k → hit (λ q. true) own_txn until x es ≡ (told own_txn x k.txn || hit (λ q. true) own_txn until x (behind m k es)))
-        → (b : Bool) → settles own_txn until e.0.txn e.1.wrote ≡ b → (if b then Some e.0 else first_settled own_txn until es) ≡ Some k
-        → hit (λ q. true) own_txn until x (e ∷ es) ≡ (told own_txn x k.txn || hit (λ q. true) own_txn until x (behind m k (e ∷ es)))
-    by rest true settled found =
-        let same : e.0 ≡ k = cc in
-        let P : RecordKey → Type 0 = λ q. q.position ≤ m → hit (λ q. true) own_txn until x (e ∷ es) ≡ (told own_txn x q.txn || hit (λ q. true) own_txn until x (behind m q (e ∷ es))) in
-        let at : P e.0 = λ fits.
-        ap (λ h. (h && nat_eq e.0.txn x) || hit (λ q. true) own_txn until x es) (asks-settles own_txn until e.0.txn e.1.wrote ∙ ap (λ s. not (is_own own_txn e.0.txn) && s) settled)
-        ∙ ap (λ h. (h && nat_eq e.0.txn x) || hit (λ q. true) own_txn until x es) (and_true (not (is_own own_txn e.0.txn)))
-        ∙ alike-found m own_txn until x e.0 es (sorted_head key_order e.0 (keys_of es) sorted)
-        ∙ ap (λ b. told own_txn x e.0.txn || hit (λ q. true) own_txn until x (cond b (e ∷ behind m e.0 es) (behind m e.0 es))) (sym (not_behind m e.0 fits)) in
-        subst P same at within
-    by rest false settled found =
-        let none : asks own_txn until e.0.txn e.1.wrote ≡ false = asks-settles own_txn until e.0.txn e.1.wrote ∙ ap (λ s. not (is_own own_txn e.0.txn) && s) settled ∙ and_false (not (is_own own_txn e.0.txn)) in
-        nothing true es es none
-        ∙ rest found
-        ∙ ap (λ h. told own_txn x k.txn || h) (sym (nothing (is_lt (key_order (last_alike m k) e.0)) es (behind m k es) none))
-
-pub unsettled-none : (own_txn until : Option ℕ) (x : ℕ) (es : List (RecordKey × PrimaryRecord)) → first_settled own_txn until es ≡ None → hit (λ q. true) own_txn until x es ≡ false
-unsettled-none own_txn until x [] is = refl
-unsettled-none own_txn until x (e ∷ es) is = by (unsettled-none own_txn until x es) (settles own_txn until e.0.txn e.1.wrote) refl is
-  where
-    by : (first_settled own_txn until es ≡ None → hit (λ q. true) own_txn until x es ≡ false)
-        → (b : Bool) → settles own_txn until e.0.txn e.1.wrote ≡ b → (if b then Some e.0 else first_settled own_txn until es) ≡ None → hit (λ q. true) own_txn until x (e ∷ es) ≡ false
-    by rest true settled found = cc
-    by rest false settled found =
-        ap (λ h. (h && nat_eq e.0.txn x) || hit (λ q. true) own_txn until x es) (asks-settles own_txn until e.0.txn e.1.wrote ∙ ap (λ s. not (is_own own_txn e.0.txn) && s) settled ∙ and_false (not (is_own own_txn e.0.txn)))
-        ∙ rest found
-
 -- ---- the next part
 
 filter-twice : (s t u : RecordKey → Bool) → ((q : RecordKey) → (s q && t q) ≡ u q) → (es : List (RecordKey × PrimaryRecord))
@@ -203,12 +163,12 @@ filter-twice s t u both (e ∷ es) = by (t e.0) (both e.0) ∙ ap (λ l. cond (u
     by true is = ap (λ c. cond c (e ∷ those s (those t es)) (those s (those t es))) (sym (and_true (s e.0)) ∙ is)
     by false is = ap (λ c. cond c (e ∷ those s (those t es)) (those s (those t es))) (sym (and_false (s e.0)) ∙ is)
 
--- what is behind the last one alike of a part that begins before the key
-next-part : (m : ℕ) (k : RecordKey) (from hi : Bound RecordKey) (es : List (RecordKey × PrimaryRecord)) → k.position ≤ m → is_from_start key_order from k ≡ true
-    → behind m k (entries_between key_order from hi es) ≡ entries_between key_order (Excluded (last_alike m k)) hi es
-next-part m k from hi es within start =
-    filter-twice (λ q. is_lt (key_order (last_alike m k) q)) (λ q. range_contains key_order from hi q) (λ q. range_contains key_order (Excluded (last_alike m k)) hi q)
-    (λ q. by (is_lt (key_order (last_alike m k) q)) (is_from_start key_order from q) (not (is_past_end key_order hi q)) (λ lt. from_start from k q start (after_behind m k q within lt))) es
+-- of a part that begins at k or before it, what is behind a key that is not before k
+next-part : (last k : RecordKey) (from hi : Bound RecordKey) (es : List (RecordKey × PrimaryRecord)) → ((q : RecordKey) → is_lt (key_order last q) ≡ true → key_order k q ≡ Less) → is_from_start key_order from k ≡ true
+    → those (λ q. is_lt (key_order last q)) (entries_between key_order from hi es) ≡ entries_between key_order (Excluded last) hi es
+next-part last k from hi es later start =
+    filter-twice (λ q. is_lt (key_order last q)) (λ q. range_contains key_order from hi q) (λ q. range_contains key_order (Excluded last) hi q)
+    (λ q. by (is_lt (key_order last q)) (is_from_start key_order from q) (not (is_past_end key_order hi q)) (λ lt. from_start from k q start (later q lt))) es
   where
     by : (a b c : Bool) → (a ≡ true → b ≡ true) → (a && (b && c)) ≡ (a && c)
     by true b c h = ap (λ d. d && c) (h refl)
@@ -228,143 +188,156 @@ sorted-part from hi es sorted =
     subst (IsStrictlySortedBy key_order) (sym (keys-filter (λ q. range_contains key_order from hi q) es))
     (IsStrictlySortedBy-filter key_order (λ q. range_contains key_order from hi q) (keys_of es) sorted)
 
--- what a search in a part finds lies in that part
-settled-in : (own_txn until : Option ℕ) (t : RecordKey → Bool) (k : RecordKey) (es : List (RecordKey × PrimaryRecord))
-    → first_settled own_txn until (those t es) ≡ Some k → t k ≡ true
-settled-in own_txn until t k [] is = cc
-settled-in own_txn until t k (e ∷ es) is = by (settled-in own_txn until t k es) (t e.0) refl is
+-- the first record of a part lies in it
+head-in : (t : RecordKey → Bool) (e : RecordKey × PrimaryRecord) (rest es : List (RecordKey × PrimaryRecord)) → those t es ≡ e ∷ rest → t e.0 ≡ true
+head-in t e rest es is = All-head (λ (q : RecordKey × PrimaryRecord). t q.0 ≡ true) e rest (subst (All (λ (q : RecordKey × PrimaryRecord). t q.0 ≡ true)) is (filter_passes (λ (q : RecordKey × PrimaryRecord). t q.0) es))
+
+-- records that all come after a key are all behind it
+all-after : (k : RecordKey) (es : List (RecordKey × PrimaryRecord)) → AllByRecursion (λ (q : RecordKey). key_order k q ≡ Less) (keys_of es) → those (λ q. is_lt (key_order k q)) es ≡ es
+all-after k [] after = refl
+all-after k (e ∷ es) after =
+    ap (λ b. cond b (e ∷ those (λ q. is_lt (key_order k q)) es) (those (λ q. is_lt (key_order k q)) es)) (ap is_lt after.0)
+    ∙ ap (λ l. e ∷ l) (all-after k es after.1)
+
+no_longer : (t : RecordKey → Bool) (es : List (RecordKey × PrimaryRecord)) → length (those t es) ≤ length es
+no_longer t [] = omega arith
+no_longer t (e ∷ es) = by (t e.0) (no_longer t es)
   where
-    at : (first_settled own_txn until (those t es) ≡ Some k → t k ≡ true) → (b : Bool) → t e.0 ≡ true → (if b then Some e.0 else first_settled own_txn until (those t es)) ≡ Some k → t k ≡ true
-    at rest true in_part found = let same : e.0 ≡ k = cc in ap t (sym same) ∙ in_part
-    at rest false in_part found = rest found
-
-    by : (first_settled own_txn until (those t es) ≡ Some k → t k ≡ true) → (b : Bool) → t e.0 ≡ b → first_settled own_txn until (cond b (e ∷ those t es) (those t es)) ≡ Some k → t k ≡ true
-    by rest true in_part found = at rest (settles own_txn until e.0.txn e.1.wrote) in_part found
-    by rest false in_part found = rest found
-
-no_more : (u v : RecordKey → Bool) → ((q : RecordKey) → u q ≡ true → v q ≡ true) → (es : List (RecordKey × PrimaryRecord))
-    → length (those u es) ≤ length (those v es)
-no_more u v less [] = omega arith
-no_more u v less (e ∷ es) = by (u e.0) (v e.0) (less e.0) (no_more u v less es)
-  where
-    by : (a b : Bool) → (a ≡ true → b ≡ true) → length (those u es) ≤ length (those v es) → length (cond a (e ∷ those u es) (those u es)) ≤ length (cond b (e ∷ those v es) (those v es))
-    by true true h rest = omega arith
-    by true false h rest = let no : false ≡ true = h refl in cc
-    by false true h rest = omega arith
-    by false false h rest = rest
-
--- a test that a found key does not pass lets fewer records through
-fewer : (own_txn until : Option ℕ) (t u v : RecordKey → Bool) (k : RecordKey) → ((q : RecordKey) → u q ≡ true → v q ≡ true) → u k ≡ false → v k ≡ true
-    → (es : List (RecordKey × PrimaryRecord)) → first_settled own_txn until (those t es) ≡ Some k
-    → length (those u es) < length (those v es)
-fewer own_txn until t u v k less out within [] is = cc
-fewer own_txn until t u v k less out within (e ∷ es) is = by (fewer own_txn until t u v k less out within es) (t e.0) is
-  where
-    later : (a b : Bool) → (a ≡ true → b ≡ true) → length (those u es) < length (those v es) → length (cond a (e ∷ those u es) (those u es)) < length (cond b (e ∷ those v es) (those v es))
-    later true true h rest = omega arith
-    later true false h rest = let no : false ≡ true = h refl in cc
-    later false true h rest = omega arith
-    later false false h rest = rest
-
-    here : (a b : Bool) → a ≡ false → b ≡ true → length (those u es) ≤ length (those v es) → length (cond a (e ∷ those u es) (those u es)) < length (cond b (e ∷ those v es) (those v es))
-    here true b h g rest = cc
-    here false true h g rest = omega arith
-    here false false h g rest = cc
-
-    at : (first_settled own_txn until (those t es) ≡ Some k → length (those u es) < length (those v es)) → (b : Bool) → (if b then Some e.0 else first_settled own_txn until (those t es)) ≡ Some k
-        → length (those u (e ∷ es)) < length (those v (e ∷ es))
-    at rest true found =
-        let same : e.0 ≡ k = cc in
-        here (u e.0) (v e.0) (ap u same ∙ out) (ap v same ∙ within) (no_more u v less es)
-    at rest false found = later (u e.0) (v e.0) (less e.0) (rest found)
-
-    by : (first_settled own_txn until (those t es) ≡ Some k → length (those u es) < length (those v es)) → (b : Bool) → first_settled own_txn until (cond b (e ∷ those t es) (those t es)) ≡ Some k
-        → length (those u (e ∷ es)) < length (those v (e ∷ es))
-    by rest true found = at rest (settles own_txn until e.0.txn e.1.wrote) found
-    by rest false found = later (u e.0) (v e.0) (less e.0) (rest found)
+    by : (b : Bool) → length (those t es) ≤ length es → length (cond b (e ∷ those t es) (those t es)) ≤ length (e ∷ es)
+    by true rest = omega arith
+    by false rest = omega arith
 
 -- ---- the search
 
--- how many records there are from the next key on
-abbrev pub left : List (RecordKey × PrimaryRecord) → Option RecordKey → ℕ
-left es None = 0
-left es (Some k) = length (filter (λ (e : RecordKey × PrimaryRecord). is_le (key_order k e.0)) es)
-
--- from some key on the search has not looked yet: there `next` is the first record that settles its transaction, and what
--- was found and what is to be found there are all that there is
-pub record GotTo (own_txn until : Option ℕ) (end : RecordKey) (es : List (RecordKey × PrimaryRecord)) (all found : ℕ → Bool) (next : Option RecordKey) : Type 0 where
+-- from some key on the search has not looked yet: what was found and what is to be found in the rest are all that there is;
+-- and the transaction that was settled last was told of, unless it is left aside
+pub record GotTo (own_txn until : Option ℕ) (end : RecordKey) (es : List (RecordKey × PrimaryRecord)) (all found : ℕ → Bool) (settled : Option RecordKey) (rest : List (RecordKey × PrimaryRecord)) : Type 0 where
   pub from : Bound RecordKey
-  pub next_is : next ≡ first_settled own_txn until (entries_between key_order from (Excluded end) es)
-  pub tells : (x : ℕ) → (found x || hit (λ q. true) own_txn until x (entries_between key_order from (Excluded end) es)) ≡ all x
-
-or_assoc : (a b c : Bool) → ((a || b) || c) ≡ (a || (b || c))
-or_assoc true b c = refl
-or_assoc false b c = refl
+  pub rest_is : rest ≡ entries_between key_order from (Excluded end) es
+  pub tells : (x : ℕ) → (found x || hit (λ q. true) own_txn until x rest) ≡ all x
+  pub told_of : (k : RecordKey) → settled ≡ Some k → (x : ℕ) → told own_txn x k.txn ≡ true → found x ≡ true
 
 or_false : (a : Bool) → (a || false) ≡ a
 or_false true = refl
 or_false false = refl
 
-module _ (own_txn until : Option ℕ) (end : RecordKey) (es : List (RecordKey × PrimaryRecord)) (all found : ℕ → Bool) where
-  pub got-all : GotTo own_txn until end es all found None → (x : ℕ) → found x ≡ all x
-  got-all got x =
-      sym (or_false (found x))
-      ∙ ap (λ b. found x || b) (sym (unsettled-none own_txn until x (entries_between key_order got.from (Excluded end) es) (sym got.next_is)))
-      ∙ got.tells x
+module _ (own_txn until : Option ℕ) (end : RecordKey) (es : List (RecordKey × PrimaryRecord)) (all found : ℕ → Bool) (settled : Option RecordKey) where
+  pub got-all : GotTo own_txn until end es all found settled [] → (x : ℕ) → found x ≡ all x
+  got-all got x = sym (or_false (found x)) ∙ got.tells x
 
-  module _ (m : ℕ) (k : RecordKey) (within : k.position ≤ m) (got : GotTo own_txn until end es all found (Some k)) where
-    in_part : range_contains key_order got.from (Excluded end) k ≡ true
-    in_part = settled-in own_txn until (λ q. range_contains key_order got.from (Excluded end) q) k es (sym got.next_is)
+  module _ (e : RecordKey × PrimaryRecord) (rest part : List (RecordKey × PrimaryRecord)) (sorted : IsStrictlySortedBy key_order (keys_of es)) (first : part ≡ e ∷ rest)
+      (before : GotTo own_txn until end es all found settled part) where
+    got : GotTo own_txn until end es all found settled (e ∷ rest)
+    got = subst (GotTo own_txn until end es all found settled) first before
 
     both : (a b : Bool) → (a && b) ≡ true → (a ≡ true) × (b ≡ true)
     both true b h = (refl, h)
     both false b h = cc
 
-    pub got-next : IsStrictlySortedBy key_order (keys_of es) → (last : RecordKey) → last ≡ last_alike m k → (more : ℕ → Bool)
-        → ((x : ℕ) → more x ≡ (found x || (not (is_own own_txn k.txn) && nat_eq k.txn x)))
-        → (next : Option RecordKey) → next ≡ first_settled own_txn until (entries_between key_order (Excluded last) (Excluded end) es)
-        → GotTo own_txn until end es all more next
-    got-next sorted last is more adds next next_is = record {
-      from = Excluded (last_alike m k);
-      next_is = next_is ∙ ap (λ b. first_settled own_txn until (entries_between key_order (Excluded b) (Excluded end) es)) is;
+    in_part : (is_from_start key_order got.from e.0 ≡ true) × (not (is_past_end key_order (Excluded end) e.0) ≡ true)
+    in_part = both _ _ (head-in (λ q. range_contains key_order got.from (Excluded end) q) e rest es (sym got.rest_is))
+
+    after : AllByRecursion (λ (q : RecordKey). key_order e.0 q ≡ Less) (keys_of rest)
+    after = sorted_head key_order e.0 (keys_of rest)
+        (subst (λ (l : List (RecordKey × PrimaryRecord)). IsStrictlySortedBy key_order (keys_of l)) (sym got.rest_is) (sorted-part got.from (Excluded end) es sorted))
+
+    -- the rest of a part is the part behind its first record
+    rest-part : rest ≡ entries_between key_order (Excluded e.0) (Excluded end) es
+    rest-part =
+        sym (all-after e.0 rest after)
+        ∙ ap (λ b. cond b (e ∷ those (λ q. is_lt (key_order e.0 q)) rest) (those (λ q. is_lt (key_order e.0 q)) rest)) (sym (ap is_lt (tied_itself key_order_total e.0)))
+        ∙ ap (λ l. those (λ q. is_lt (key_order e.0 q)) l) got.rest_is
+        ∙ next-part e.0 e.0 got.from (Excluded end) es (λ q. lt_is (key_order e.0 q)) in_part.0
+
+    -- a record that settles nothing is passed over
+    pub got-unsettled : settles own_txn until e.0.txn e.1.wrote ≡ false → GotTo own_txn until end es all found settled rest
+    got-unsettled unsettled = record {
+      from = Excluded e.0;
+      rest_is = rest-part;
       tells = λ x.
-          ap (λ b. b || hit (λ q. true) own_txn until x (entries_between key_order (Excluded (last_alike m k)) (Excluded end) es)) (adds x)
-          ∙ or_assoc (found x) (not (is_own own_txn k.txn) && nat_eq k.txn x) _
-          ∙ ap (λ l. found x || (told own_txn x k.txn || hit (λ q. true) own_txn until x l)) (sym (next-part m k got.from (Excluded end) es within (both _ _ in_part).0))
-          ∙ ap (λ b. found x || b) (sym (settled-found m own_txn until x k (entries_between key_order got.from (Excluded end) es) within (sorted-part got.from (Excluded end) es sorted) (sym got.next_is)))
+          ap (λ h. found x || ((h && nat_eq e.0.txn x) || hit (λ q. true) own_txn until x rest))
+          (sym (asks-settles own_txn until e.0.txn e.1.wrote ∙ ap (λ s. not (is_own own_txn e.0.txn) && s) unsettled ∙ and_false (not (is_own own_txn e.0.txn))))
           ∙ got.tells x;
+      told_of = got.told_of;
     }
 
-    -- the search goes on before the end
-    pub got-forward : (path : Parts) → end ≡ record { path = path; txn = 0; position = 0 } → (last : RecordKey) → last ≡ last_alike m k → key_order last end ≡ Less
-    got-forward path is last same =
-        ap (λ a. key_order a end) same ∙ ap (key_order (last_alike m k)) is
-        ∙ by (path_order k.path path) (path_order path k.path) (path_order_total.antisymm k.path path) (ordering_then (nat_cmp 0 k.txn) (nat_cmp 0 k.position)) (least k.txn k.position) _
-        (ap (λ a. not (is_le (key_order a k))) (sym is) ∙ (both _ _ in_part).1)
+    -- a record that settles its transaction is told of
+    pub got-settled : settles own_txn until e.0.txn e.1.wrote ≡ true → (more : ℕ → Bool) → ((x : ℕ) → more x ≡ (found x || told own_txn x e.0.txn)) → GotTo own_txn until end es all more (Some e.0) rest
+    got-settled is more adds = record {
+      from = Excluded e.0;
+      rest_is = rest-part;
+      tells = λ x.
+          ap (λ b. b || hit (λ q. true) own_txn until x rest) (adds x)
+          ∙ or_assoc (found x) (told own_txn x e.0.txn) _
+          ∙ ap (λ h. found x || ((h && nat_eq e.0.txn x) || hit (λ q. true) own_txn until x rest))
+          (sym (asks-settles own_txn until e.0.txn e.1.wrote ∙ ap (λ s. not (is_own own_txn e.0.txn) && s) is ∙ and_true (not (is_own own_txn e.0.txn))))
+          ∙ got.tells x;
+      told_of = λ k same x tell.
+          let key : e.0 ≡ k = cc in
+          adds x ∙ ap (λ b. found x || b) (ap (λ (q : RecordKey). told own_txn x q.txn) key ∙ tell) ∙ or_true (found x);
+    }
       where
-        least : (a b : ℕ) → is_gt (ordering_then (nat_cmp 0 a) (nat_cmp 0 b)) ≡ false
-        least a b = grind (arith, nat_tests)
+        or_assoc : (a b c : Bool) → ((a || b) || c) ≡ (a || (b || c))
+        or_assoc true b c = refl
+        or_assoc false b c = refl
 
-        by : (o p : Ordering) → o ≡ ordering_reverse p → (r : Ordering) → is_gt r ≡ false → (s : Ordering) → not (is_le (ordering_then p r)) ≡ true → ordering_then o s ≡ Less
-        by o Less rev r h s g = cc
-        by o Equal rev Less h s g = cc
-        by o Equal rev Equal h s g = cc
-        by o Equal rev Greater h s g = cc
-        by o Greater rev r h s g = ap (λ p. ordering_then p s) rev
+        or_true : (a : Bool) → (a || true) ≡ true
+        or_true true = refl
+        or_true false = refl
 
-    pub got-less : (last : RecordKey) → last ≡ last_alike m k → (next : Option RecordKey) → next ≡ first_settled own_txn until (entries_between key_order (Excluded last) (Excluded end) es)
-        → left es next < left es (Some k)
-    got-less last is None next_is =
-        let some = fewer own_txn until (λ q. range_contains key_order got.from (Excluded end) q) (λ q. false) (λ q. is_le (key_order k q)) k (λ q h. cc) refl
-        (ap is_le (tied_itself key_order_total k)) es (sym got.next_is) in
-        let some : length (filter (λ (e : RecordKey × PrimaryRecord). false) es) < length (filter (λ (e : RecordKey × PrimaryRecord). is_le (key_order k e.0)) es) = some in
-        omega arith
-    got-less last is (Some q) next_is =
-        let in_next : range_contains key_order (Excluded (last_alike m k)) (Excluded end) q ≡ true =
-        settled-in own_txn until (λ q. range_contains key_order (Excluded (last_alike m k)) (Excluded end) q) q es
-        (ap (λ b. first_settled own_txn until (entries_between key_order (Excluded b) (Excluded end) es)) (sym is) ∙ sym next_is) in
-        let after : key_order k q ≡ Less = after_behind m k q within (both _ _ in_next).0 in
-        fewer own_txn until (λ q. range_contains key_order got.from (Excluded end) q) (λ p. is_le (key_order q p)) (λ p. is_le (key_order k p)) k
-        (λ p h. le_from_gt (key_order k p) (upto key_order_total k q p (ap is_gt after) (gt_from_le (key_order q p) h)))
-        (ap is_le (key_order_total.antisymm q k ∙ ap ordering_reverse after))
-        (ap is_le (tied_itself key_order_total k)) es (sym got.next_is)
+    module _ (m : ℕ) (within : e.0.position ≤ m) (last : RecordKey) (last_is : last ≡ last_alike m e.0) where
+      behind-part : behind m e.0 rest ≡ entries_between key_order (Excluded last) (Excluded end) es
+      behind-part =
+          ap (λ b. cond b (e ∷ behind m e.0 rest) (behind m e.0 rest)) (sym (not_behind m e.0 within))
+          ∙ ap (behind m e.0) got.rest_is
+          ∙ next-part (last_alike m e.0) e.0 got.from (Excluded end) es (λ q. after_behind m e.0 q within) in_part.0
+          ∙ ap (λ b. entries_between key_order (Excluded b) (Excluded end) es) (sym last_is)
+
+      -- from a record of the transaction that was settled last, the search goes on behind all that are alike
+      pub got-alike : (last_settled : RecordKey) → settled ≡ Some last_settled → (same : Bool) → (nat_eq e.0.txn last_settled.txn && same) ≡ true → (next : List (RecordKey × PrimaryRecord)) → next ≡ entries_between key_order (Excluded last) (Excluded end) es
+          → GotTo own_txn until end es all found settled next
+      got-alike last_settled was same alike next next_is = record {
+        from = Excluded last;
+        rest_is = next_is;
+        tells = λ x.
+            ap (λ l. found x || hit (λ q. true) own_txn until x l) (next_is ∙ sym behind-part)
+            ∙ skip (is_own own_txn e.0.txn) (in_time until e.1.wrote) (nat_eq e.0.txn x) (found x) _ _
+            (λ tell. got.told_of last_settled was x (ap (told own_txn x) (sym (one_txn e.0.txn last_settled.txn same alike)) ∙ tell)) (alike-found m own_txn until x e.0 rest after)
+            ∙ got.tells x;
+        told_of = got.told_of;
+      }
+        where
+          one_txn : (a b : ℕ) (c : Bool) → (nat_eq a b && c) ≡ true → a ≡ b
+          one_txn a b c h = grind (arith, nat_tests)
+
+          skip : (own timely is f a b : Bool) → ((not own && is) ≡ true → f ≡ true) → ((not own && is) || a) ≡ ((not own && is) || b)
+              → (f || b) ≡ (f || (((not own && timely) && is) || a))
+          skip o t i true a b h g = refl
+          skip true t i false a b h g = sym g
+          skip false t true false a b h g = let no : false ≡ true = h refl in cc
+          skip false true false false a b h g = sym g
+          skip false false false false a b h g = sym g
+
+      pub got-less : (next : List (RecordKey × PrimaryRecord)) → next ≡ entries_between key_order (Excluded last) (Excluded end) es → length next < length part
+      got-less next next_is =
+          let same : length next ≡ length (behind m e.0 rest) = ap length (next_is ∙ sym behind-part) in
+          let whole : length part ≡ length (e ∷ rest) = ap length first in
+          let fits : length (behind m e.0 rest) ≤ length rest = no_longer (λ q. is_lt (key_order (last_alike m e.0) q)) rest in
+          omega arith
+
+      -- the search goes on before the end
+      pub got-forward : (path : Parts) → end ≡ record { path = path; txn = 0; position = 0 } → key_order last end ≡ Less
+      got-forward path is =
+          ap (λ a. key_order a end) last_is ∙ ap (key_order (last_alike m e.0)) is
+          ∙ by (path_order e.0.path path) (path_order path e.0.path) (path_order_total.antisymm e.0.path path) (ordering_then (nat_cmp 0 e.0.txn) (nat_cmp 0 e.0.position)) (least e.0.txn e.0.position) _
+          (ap (λ a. not (is_le (key_order a e.0))) (sym is) ∙ in_part.1)
+        where
+          least : (a b : ℕ) → is_gt (ordering_then (nat_cmp 0 a) (nat_cmp 0 b)) ≡ false
+          least a b = grind (arith, nat_tests)
+
+          by : (o p : Ordering) → o ≡ ordering_reverse p → (r : Ordering) → is_gt r ≡ false → (s : Ordering) → not (is_le (ordering_then p r)) ≡ true → ordering_then o s ≡ Less
+          by o Less rev r h s g = cc
+          by o Equal rev Less h s g = cc
+          by o Equal rev Equal h s g = cc
+          by o Equal rev Greater h s g = cc
+          by o Greater rev r h s g = ap (λ p. ordering_then p s) rev

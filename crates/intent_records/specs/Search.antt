@@ -1,5 +1,5 @@
 -- What a search for records on related paths finds.
-use Rattle.std.specs.Prelude.{ℕ, Bool, true, false, ◌&&◌, ◌||◌, not, List, [], ◌∷◌, ◌++◌, Option, Some, None, nat_eq, nat_lt, nat_le, if◌then◌else◌, length, filter}
+use Rattle.std.specs.Prelude.{ℕ, Bool, true, false, ◌&&◌, ◌||◌, not, List, [], ◌∷◌, ◌++◌, Option, Some, None, nat_eq, nat_lt, nat_le, length, filter}
 use Rattle.std.specs.List.{list_any}
 use Rattle.std.specs.Ordering.{is_le, is_gt}
 use Rattle.doc_path.specs.Path.{Parts, is_prefix, related, path_order}
@@ -30,11 +30,6 @@ asks own_txn until x wrote = not (is_own own_txn x) && in_time until wrote
 -- a record tells all that the records of its transaction at its path can tell: it is left aside with them, or told of
 abbrev pub settles : Option ℕ → Option ℕ → ℕ → ℕ → Bool
 settles own_txn until x wrote = is_own own_txn x || in_time until wrote
-
--- the key of the first such record
-abbrev pub first_settled : Option ℕ → Option ℕ → List (RecordKey × PrimaryRecord) → Option RecordKey
-first_settled own_txn until [] = None
-first_settled own_txn until (e ∷ es) = if settles own_txn until e.0.txn e.1.wrote then Some e.0 else first_settled own_txn until es
 
 -- the transaction has a record on such a path, of those that are asked for
 abbrev pub hit : (Parts → Bool) → Option ℕ → Option ℕ → ℕ → List (RecordKey × PrimaryRecord) → Bool

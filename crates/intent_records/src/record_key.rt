@@ -1,5 +1,7 @@
 //! Where a primary record stands.
-ghost use Rattle.std.specs.Prelude.{◌≡◌, ◌≤◌, IfOk};
+ghost use Rattle.std.specs.Prelude.{◌≡◌, ◌≤◌, ◌&&◌, nat_eq, IfOk};
+ghost use Rattle.std.specs.Ordering.{is_eq};
+ghost use Rattle.doc_path.specs.Path.{path_order};
 ghost use Rattle.intent_records.specs.Keys.{key_order};
 
 use doc_path::Path;
@@ -27,6 +29,13 @@ impl RecordKey {
             txn: TxnId { number: 0 },
             position: 0,
         })
+    }
+
+    /// Whether both are keys of one transaction on one path.
+    pub fn is_alike(&self, other: &RecordKey) -> bool
+        ensures { result ≡ (nat_eq self.now.txn other.now.txn && is_eq (path_order self.now.path other.now.path)) }
+    {
+        self.txn == other.txn && self.path.cmp(&other.path).is_eq()
     }
 
     /// The greatest key of its transaction on its path.
