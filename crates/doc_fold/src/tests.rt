@@ -140,3 +140,19 @@ fn ids_decide_a_tie(rt: HostRuntime) -> Result<(), Fail> {
     assert_eq!(rt; value_text(rt.alloc(), got)?.as_str(), "b");
     Ok(())
 }
+
+/// A transaction puts one subkey of a document, reads two of them, and deletes the document: its own writes are the newest.
+#[test]
+fn own_writes_are_folded(rt: HostRuntime) -> Result<(), Fail> {
+    for (writes, place, value) in [
+        ("a/1@10.0=1", "a/1", "1"),
+        ("a/1@10.0=1", "a/2", "-"),
+        ("a/1@10.0=1 a@10.1=-", "a/1", "-"),
+    ] {
+        let own = committed(rt.alloc(), writes)?;
+        let place = path(rt.alloc(), place)?;
+        let got = fold_get(rt.alloc(), &own, time(10)?, &place)?;
+        assert_eq!(rt; value_text(rt.alloc(), got)?.as_str(), value, "{writes}");
+    }
+    Ok(())
+}

@@ -1,11 +1,12 @@
 //! Each public call once, with ample memory. What they answer is worked by hand in the lines of `docdb_actor`.
 use crate::Intents;
 use doc_path::Path;
+use docdb_base::Seq;
 use hybrid_time::HybridTime;
 use std::alloc::Global;
 use std::collections::BTreeSet;
 use std::test::Fail;
-use txn_types::{Isolation, Meta, Op, Paths, TxnId};
+use txn_types::{Isolation, Meta, Op, Paths, Provisional, TxnId};
 
 const ONE: TxnId = TxnId { number: 1 };
 
@@ -54,5 +55,55 @@ fn gives_and_takes_one(rt: HostRuntime) -> Result<(), Fail> {
     assert_eq!(rt; intents.take_of(ONE)?.len(), 1);
     intents.drop_of(ONE);
     assert!(rt; intents.meta(ONE).is_none());
+    Ok(())
+}
+
+// A provisional write in short: its path of one part, its transaction, its time in microseconds, its number, and whether it
+// deletes.
+type InShort<'a> = (&'a [u8], u128, u64, u32, bool);
+
+fn in_short(record: &Provisional) -> InShort<'_> {
+    let deletes = match record.op {
+        Op::Delete => true,
+        Op::Put(_) => false,
+    };
+    let first: &[u8] = if record.path.parts() == 1 {
+        record.path.part(0)
+    } else {
+        b""
+    };
+    (
+        first,
+        record.txn.number,
+        record.wrote.micros(),
+        record.number,
+        deletes,
+    )
+}
+
+#[test]
+fn gives_and_takes_whole_records(rt: HostRuntime) -> Result<(), Fail> {
+    let path = Path::of(rt.alloc(), "k".as_bytes())?;
+    let mut intents = with_one(rt.alloc(), &path)?;
+    let meta = |txn| Meta {
+        txn,
+        status: 0,
+        isolation: Isolation::Snapshot,
+        priority: 0,
+    };
+    let put = Op::Put(Seq::of("v".as_bytes().to_vec(rt.alloc())?));
+    intents.add(&meta(OTHER), 0, &path, &put, HybridTime::of(4, 0))?;
+    intents.add(&meta(ONE), 1, &path, &put, HybridTime::of(5, 0))?;
+    let expected = [(b"k", 1, 3, 0, true), (b"k", 1, 5, 1, false)];
+    for list in [intents.records_of(ONE)?, intents.take_of(ONE)?] {
+        assert_eq!(rt; list.len(), 2);
+        for (record, (path, txn, micros, number, deletes)) in list.iter().zip(expected) {
+            assert!(rt; in_short(record) == (path, txn, micros, number, deletes));
+        }
+    }
+    assert!(rt; intents.records_of(ONE)?.is_empty());
+    let others = intents.records_of(OTHER)?;
+    assert_eq!(rt; others.len(), 1);
+    assert!(rt; in_short(&others[0]) == (b"k", 2, 4, 0, false));
     Ok(())
 }
