@@ -66,6 +66,7 @@ module _ {V L : Type 0} (holds : V → List Version → Type 0) where
   rebuilt law still old new kept_piece again = record {
     found = again.found;
     held = again.held;
+    same = again.starts.held ∙ again.same.held;
     loads = again.loads;
     up = again.starts.down;
     clock = again.starts.clock ∙ ap (λ (c : ClockState). restarted c (lease_in again.found)) again.same.clock;

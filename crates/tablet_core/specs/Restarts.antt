@@ -22,6 +22,7 @@ use Rattle.tablet_core.specs.Stands.{Stands}
 pub record IsRebuilt {V L : Type 0} (holds : V → List Version → Type 0) (old new : TabletCore V L) (kept : Bool) : Type 0 where
   pub found : List LogRecord
   pub held : Holds old.log.held found
+  pub same : new.log.held ≡ old.log.held
   pub loads : Rose old.log.loads new.log.loads
   pub up : new.log.down ≡ None
   pub clock : new.log.clock ≡ restarted old.log.clock (lease_in found)

@@ -122,6 +122,7 @@ impl<V: Versions, L: LogStore> FittingLog<V, L> {
         requires { self.old.actions < 2 ^ 62 }
         ensures fits { IfOk result (λ records. All (PathFits V.fits) records.items) }
         ensures found { IfOk result (λ records. Holds self.old.held records.items) }
+        ensures held { self.new.held ≡ self.old.held }
         ensures loaded { OnOk result (Rose self.old.loads self.new.loads) }
         ensures same { OnOk result (IsSame self.old self.new) }
         ensures memory { IsErrOf result LoadFault.Memory → IsSame self.old self.new }
@@ -134,6 +135,7 @@ impl<V: Versions, L: LogStore> FittingLog<V, L> {
 
     pub fn restart(&mut self, records: &[LogRecord]) -> bool
         requires { self.old.actions < 2 ^ 62 }
+        ensures held { self.new.held ≡ self.old.held }
         ensures starts { StartsFrom self.old self.new result records.now }
         ensures restarts { Restarts self.old self.new result records.now }
     {

@@ -251,6 +251,7 @@ impl<V: Versions + Drop, L: LogStore> TabletCore<V, L> {
         ensures itself { StaysItself self.old self.new result }
         ensures serves { ServesBy V.holds self.old self.new _from None request.Restart result }
         ensures rebuilt { IfRestarted result.reply (IsRebuilt V.holds self.old self.new) }
+        ensures held { self.new.log.held ≡ self.old.log.held }
     {
         the_same_log_stands();
         a_tablet_is_replayed();
@@ -267,6 +268,7 @@ impl<V: Versions + Drop, L: LogStore> TabletCore<V, L> {
         ensures done { IfOk result (λ kept. StartsAgain V.holds self.old self.new kept) }
         ensures failed { IsErrOf result LoadFault.Failed → StaysUnloaded self.old self.new }
         ensures memory { IsErrOf result LoadFault.Memory → IsUndone V.holds self.old self.new }
+        ensures held { self.new.log.held ≡ self.old.log.held }
     {
         let records = match self.log.load() {
             Ok(records) => records,
