@@ -1,5 +1,5 @@
 -- What the table of a tablet decides, and what each of its calls promises.
-use Rattle.std.specs.Prelude.{◌≡◌, ℕ, Bool, List, Option, Some, None, IsTrue, IfSome}
+use Rattle.std.specs.Prelude.{◌≡◌, ℕ, Bool, List, Option, Some, None, Result, IsTrue, IfSome, IfOk, IfErr}
 use Rattle.std.specs.List.{AllByRecursion}
 use Rattle.docdb_outside.specs.Count.{Rose}
 use Rattle.doc_path.specs.Path.{Parts}
@@ -27,6 +27,9 @@ use Rattle.leased_log.specs.Acts.{HoldsAfter, SameCounts, Acts}
 use Rattle.leased_log.specs.Decides.{records_for, IsPlain, IsTold, Decides, Does}
 use Rattle.tablet_records.specs.Keeps.{Keeps, PathFits}
 use Rattle.tablet_core.specs.declared.tablet_core.TabletCore.{TabletCore}
+use Rattle.tablet_core.specs.declared.undecided.Undecided.{Undecided}
+use Rattle.tablet_core.specs.declared.undecided.Undecided.TheVariants.{Down, Memory}
+use Rattle.tablet_core.specs.Requests.{IsUpRequest}
 use Rattle.tablet_core.specs.Stands.{Stands}
 
 -- the table decides so of this request, whatever entries the tablet stands for
@@ -39,10 +42,16 @@ pub record IsLoggable (fits : Parts → Type 0) (d : Decision) : Type 0 where
   pub spelled : IfSome d.own (λ own. IsTrue (has_spelling own))
   pub fit : IfSome d.own (PathFits fits)
 
--- what is decided of a request may be logged, and while the tablet is up the table decides so
-pub record IsDecided {V L : Type 0} (holds : V → List Version → Type 0) (fits : Parts → Type 0) (s : TabletCore V L) (reading : Option ℕ) (asked : Request) (d : Decision) : Type 0 where
-  pub loggable : IsLoggable fits d
-  pub says : s.log.down ≡ None → Says holds s reading asked d
+-- nothing was decided: the tablet is down since then, or memory ran out
+abbrev pub IsUndecided : Option ℕ → Undecided → Type 0
+IsUndecided down (Down since) = down ≡ Some since
+IsUndecided down Memory = Unit {0}
+
+-- what is decided of a request: it may be logged, and the table decides so; or else why nothing is decided
+pub record IsDecided {V L : Type 0} (holds : V → List Version → Type 0) (fits : Parts → Type 0) (s : TabletCore V L) (reading : Option ℕ) (asked : Request) (decided : Result Decision Undecided) : Type 0 where
+  pub loggable : IfOk decided (IsLoggable fits)
+  pub says : IfOk decided (Says holds s reading asked)
+  pub undecided : IfErr decided (IsUndecided s.log.down)
 
 -- what a call keeps: it stays the same tablet with the same leases, its store keeps what it held, and the copy is the reply
 pub record StaysItself {V L : Type 0} (old new : TabletCore V L) (s : Served) : Type 0 where
@@ -78,9 +87,15 @@ pub record ServesBy {V L : Type 0} (holds : V → List Version → Type 0) (old 
   pub faults : IsPlain asked → s.append ≡ Nothing → new.log.faults ≡ old.log.faults
 
 -- what the table decides is served by the table
-abbrev pub Performs : {V L : Type 0} → (V → List Version → Type 0) → TabletCore V L → TabletCore V L → Decision → Served → Type 0
-Performs holds old new d s =
+abbrev pub CarriesOut : {V L : Type 0} → (V → List Version → Type 0) → TabletCore V L → TabletCore V L → Decision → Served → Type 0
+CarriesOut holds old new d s =
     (from : Actor) (reading : Option ℕ) (asked : Request) → Says holds old (reading_used (takes_time asked) reading) asked d → ServesBy holds old new from reading asked s
+
+-- a request of the table, of which this was decided, is served by the table
+abbrev pub Performs : {V L : Type 0} → (V → List Version → Type 0) → TabletCore V L → TabletCore V L → Result Decision Undecided → Served → Type 0
+Performs holds old new decided s =
+    (from : Actor) (reading : Option ℕ) (asked : Request) → IsUpRequest (reading_used (takes_time asked) reading) asked
+    → IfOk decided (Says holds old (reading_used (takes_time asked) reading) asked) → ServesBy holds old new from reading asked s
 
 -- the contents once the record of an action's own was taken in, where there is one
 abbrev pub intents_with : Option LogRecord → List Intent → List Intent

@@ -1,5 +1,5 @@
 //! A tablet.
-ghost use Rattle.std.specs.Prelude.{◌≡◌, ◌&&◌, ◌≤◌, ◌<◌, ◌^◌, List, [], Some, None, IsTrue, OnOk, OnErr, IfOk, IfSome, IsErrOf, option_copied};
+ghost use Rattle.std.specs.Prelude.{◌≡◌, ◌&&◌, ◌≤◌, ◌<◌, ◌^◌, List, [], Some, None, IsTrue, OnOk, OnErr, IfOk, IfErr, IfSome, IsErrOf, option_copied};
 ghost use Rattle.std.specs.List.{All};
 ghost use Rattle.txn_data.specs.declared.request.Request.TheVariants as request;
 ghost use Rattle.txn_data.specs.declared.version.Version.{Version};
@@ -9,11 +9,12 @@ ghost use Rattle.safe_time.specs.ActorClock.{at_first};
 ghost use Rattle.tablet_core.specs.Stands.{Stands};
 ghost use Rattle.leased_log.specs.Acts.{SameCounts};
 ghost use Rattle.tablet_records.specs.Keeps.{Keeps, PathFits};
-ghost use Rattle.tablet_core.specs.Decisions.{IfRestarted, IsDone, IsLoggable, IsUndone, Performs, ServesBy, StaysItself, intents_with, versions_with};
+ghost use Rattle.tablet_core.specs.Decisions.{CarriesOut, IfRestarted, IsDone, IsLoggable, IsUndecided, IsUndone, Performs, ServesBy, StaysItself, intents_with, versions_with};
 ghost use Rattle.tablet_core.specs.Restarts.{IsRebuilt, StartsAgain, StaysUnloaded};
 
 use crate::fitting_log::FittingLog;
 use crate::replies::{log_fault, out_of_memory, restarted};
+use crate::undecided::Undecided;
 use doc_path::Path;
 use docdb_base::Memory;
 use docdb_outside::{LoadFault, LogStore};
@@ -80,14 +81,8 @@ impl<V: Versions + Drop, L: LogStore> TabletCore<V, L> {
         ensures itself { StaysItself self.old self.new result }
         ensures serves { ServesBy V.holds self.old self.new _from None (request.ListWrite txn path.now) result }
     {
-        if let Some(since) = self.log.down() {
-            let refused = self.refuse_down(since);
-            return self.perform(refused);
-        }
-        match self.decide_list_write(txn, path) {
-            Ok(decision) => self.perform(decision),
-            Err(_) => out_of_memory(),
-        }
+        let decided = self.decide_list_write(txn, path);
+        self.perform(decided)
     }
 
     /// Makes a write of a transaction provisional, the `number`-th of it, whose read time is `read`, at a time above `seen`;
@@ -110,14 +105,8 @@ impl<V: Versions + Drop, L: LogStore> TabletCore<V, L> {
         ensures itself { StaysItself self.old self.new result }
         ensures serves { ServesBy V.holds self.old self.new _from (Some reading) (request.Write meta.now number path.now op.now read seen fates.now) result }
     {
-        if let Some(since) = self.log.down() {
-            let refused = self.refuse_down(since);
-            return self.perform(refused);
-        }
-        match self.decide_write(meta, number, path, op, read, seen, fates, reading) {
-            Ok(decision) => self.perform(decision),
-            Err(_) => out_of_memory(),
-        }
+        let decided = self.decide_write(meta, number, path, op, read, seen, fates, reading);
+        self.perform(decided)
     }
 
     /// Commits a write alone, at a time above `seen` and above the commit times that `fates` tell; `reading` is in
@@ -138,14 +127,8 @@ impl<V: Versions + Drop, L: LogStore> TabletCore<V, L> {
         ensures itself { StaysItself self.old self.new result }
         ensures serves { ServesBy V.holds self.old self.new _from (Some reading) (request.Single txn path.now op.now seen fates.now) result }
     {
-        if let Some(since) = self.log.down() {
-            let refused = self.refuse_down(since);
-            return self.perform(refused);
-        }
-        match self.decide_single(txn, path, op, seen, fates, reading) {
-            Ok(decision) => self.perform(decision),
-            Err(_) => out_of_memory(),
-        }
+        let decided = self.decide_single(txn, path, op, seen, fates, reading);
+        self.perform(decided)
     }
 
     /// Tells a read of `paths` at `t` its local limit, which is the given one or else not above `g`, and the transactions
@@ -164,14 +147,8 @@ impl<V: Versions + Drop, L: LogStore> TabletCore<V, L> {
         ensures itself { StaysItself self.old self.new result }
         ensures serves { ServesBy V.holds self.old self.new _from (Some reading) (request.ListRead own paths.now t g limit) result }
     {
-        if let Some(since) = self.log.down() {
-            let refused = self.refuse_down(since);
-            return self.perform(refused);
-        }
-        match self.decide_list_read(own, paths, t, g, limit, reading) {
-            Ok(decision) => self.perform(decision),
-            Err(_) => out_of_memory(),
-        }
+        let decided = self.decide_list_read(own, paths, t, g, limit, reading);
+        self.perform(decided)
     }
 
     /// Tells what a read of `paths` at `t` meets in its window, or else its rows; `fates` are what it was told of other
@@ -191,14 +168,8 @@ impl<V: Versions + Drop, L: LogStore> TabletCore<V, L> {
         ensures itself { StaysItself self.old self.new result }
         ensures serves { ServesBy V.holds self.old self.new _from None (request.Collect own kind paths.now t window fates.now) result }
     {
-        if let Some(since) = self.log.down() {
-            let refused = self.refuse_down(since);
-            return self.perform(refused);
-        }
-        match self.decide_collect(own, kind, paths, t, window, fates) {
-            Ok(decision) => self.perform(decision),
-            Err(_) => out_of_memory(),
-        }
+        let decided = self.decide_collect(own, kind, paths, t, window, fates);
+        self.perform(decided)
     }
 
     /// Tells all transactions with provisional writes.
@@ -207,14 +178,8 @@ impl<V: Versions + Drop, L: LogStore> TabletCore<V, L> {
         ensures itself { StaysItself self.old self.new result }
         ensures serves { ServesBy V.holds self.old self.new _from None request.ListIntents result }
     {
-        if let Some(since) = self.log.down() {
-            let refused = self.refuse_down(since);
-            return self.perform(refused);
-        }
-        match self.decide_list_intents() {
-            Ok(decision) => self.perform(decision),
-            Err(_) => out_of_memory(),
-        }
+        let decided = self.decide_list_intents();
+        self.perform(decided)
     }
 
     /// The provisional writes of a transaction become versions at its commit time `at`; `reading` is in microseconds.
@@ -223,12 +188,8 @@ impl<V: Versions + Drop, L: LogStore> TabletCore<V, L> {
         ensures itself { StaysItself self.old self.new result }
         ensures serves { ServesBy V.holds self.old self.new _from (Some reading) (request.Apply txn at) result }
     {
-        if let Some(since) = self.log.down() {
-            let refused = self.refuse_down(since);
-            return self.perform(refused);
-        }
-        let decision = self.decide_apply(txn, at, reading);
-        self.perform(decision)
+        let decided = self.decide_apply(txn, at, reading);
+        self.perform(decided)
     }
 
     /// The provisional writes of a transaction go.
@@ -237,12 +198,8 @@ impl<V: Versions + Drop, L: LogStore> TabletCore<V, L> {
         ensures itself { StaysItself self.old self.new result }
         ensures serves { ServesBy V.holds self.old self.new _from None (request.Clean txn) result }
     {
-        if let Some(since) = self.log.down() {
-            let refused = self.refuse_down(since);
-            return self.perform(refused);
-        }
-        let decision = self.decide_clean(txn);
-        self.perform(decision)
+        let decided = self.decide_clean(txn);
+        self.perform(decided)
     }
 
     /// Loads its log, and starts again from what it holds.
@@ -281,22 +238,41 @@ impl<V: Versions + Drop, L: LogStore> TabletCore<V, L> {
         Ok(self.log.restart(&records))
     }
 
-    /// Does what was decided. If memory runs out, all is as before.
-    pub(crate) fn perform(&mut self, decision: Decision) -> Served
+    /// Does what was decided of a request. While the tablet is down the request is refused. If memory runs out, all is as
+    /// before.
+    fn perform(&mut self, decided: Result<Decision, Undecided>) -> Served
+        requires room { self.old.log.actions < 2 ^ 62 }
+        requires loggable { IfOk decided (IsLoggable V.fits) }
+        requires undecided { IfErr decided (IsUndecided self.old.log.down) }
+        ensures itself { StaysItself self.old self.new result }
+        ensures performs { Performs V.holds self.old self.new decided result }
+    {
+        match decided {
+            Ok(decision) => self.carry_out(decision),
+            Err(Undecided::Down { since }) => {
+                let refused = self.refuse_down(since);
+                self.carry_out(refused)
+            }
+            Err(Undecided::Memory) => out_of_memory(),
+        }
+    }
+
+    /// Does this. If memory runs out, all is as before.
+    fn carry_out(&mut self, decision: Decision) -> Served
         requires room { self.old.log.actions < 2 ^ 62 }
         requires loggable { IsLoggable V.fits decision }
         ensures itself { StaysItself self.old self.new result }
-        ensures performs { Performs V.holds self.old self.new decision result }
+        ensures carries { CarriesOut V.holds self.old self.new decision result }
     {
         the_same_log_stands();
         a_tablet_is_replayed();
-        match self.try_to_perform(decision) {
+        match self.try_to_carry_out(decision) {
             Ok(served) => served,
             Err(_) => out_of_memory(),
         }
     }
 
-    fn try_to_perform(&mut self, decision: Decision) -> Result<Served, Memory>
+    fn try_to_carry_out(&mut self, decision: Decision) -> Result<Served, Memory>
         requires room { self.old.log.actions < 2 ^ 62 }
         requires loggable { IsLoggable V.fits decision }
         ensures done { IfOk result (λ served. IsDone V.holds self.old self.new decision served) }

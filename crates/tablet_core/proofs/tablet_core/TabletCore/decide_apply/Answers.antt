@@ -14,3 +14,4 @@ returns-in-Ok g c =
     (request.Apply c.args.txn c.args.at) (Some (log_record.Apply c.args.txn c.args.at)) (λ h now. reply.AppliedHere) reply.AppliedHere (record { spelled = refl; fit = tt }) tt tt tt refl (λ h kept. refl)
     (λ h kept fails. ap (λ (b : Bool). cond b (timed c.args.self.now.log.clock.lease h fails Floor c.args.at c.args.reading true (λ now. reply.AppliedHere)) (told_only reply.AppliedHere))
     (sym (c.has_any.ensures (provisional h) (versions h) kept) ∙ some))
+    c.in_ok-is_up.ensures.up

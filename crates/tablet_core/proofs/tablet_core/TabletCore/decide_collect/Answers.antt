@@ -8,4 +8,4 @@ use Rattle.tablet_core.proofs.tablet_core.TabletCore.decide_collect.Goals as goa
 pub returns : goal.returns
 returns g c = rw c.tell.ensures (told_decided g.V.Versions.holds c.args.self.now g.V.Versions.fits None (request.Collect c.args.own c.args.kind c.args.paths.now c.args.t c.args.window c.args.fates.now)
     c.in_ok-reply.reply tt (read_told c.in_ok-reply.reply c.in_ok-reply.ensures.kind) refl
-    (λ h kept fails. ap told_only (sym (c.in_ok-reply.ensures.reply (provisional h) (versions h) kept))))
+    (λ h kept fails. ap told_only (sym (c.in_ok-reply.ensures.reply (provisional h) (versions h) kept))) c.in_ok-is_up.ensures.up)

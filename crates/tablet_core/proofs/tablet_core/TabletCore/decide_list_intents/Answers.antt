@@ -10,4 +10,4 @@ use Rattle.tablet_core.proofs.tablet_core.TabletCore.decide_list_intents.Goals a
 pub returns : goal.returns
 returns g c = rw c.tell.ensures (told_decided g.V.Versions.holds c.args.self.now g.V.Versions.fits None request.ListIntents
     (Intents c.in_ok-all.all) tt tt refl
-    (λ h kept fails. ap (λ (fs : List Found). told_only (Intents fs)) (sym (c.in_ok-all.ensures (provisional h) (versions h) kept))))
+    (λ h kept fails. ap (λ (fs : List Found). told_only (Intents fs)) (sym (c.in_ok-all.ensures (provisional h) (versions h) kept))) c.in_ok-is_up.ensures.up)

@@ -14,3 +14,4 @@ returns-in_ok-others-in-Ok g c =
     (λ h kept. ap (λ (l : ℕ). listed c.args.own c.args.paths.now c.args.t l (provisional h)) (sym c.local_limit-limit.ensures)
     ∙ sym (c.in_ok-others-in-Ok.ensures (provisional h) (versions h) kept))
     (λ h kept fails. refl)
+    c.in_ok-is_up.ensures.up

@@ -10,4 +10,4 @@ use Rattle.tablet_core.proofs.tablet_core.TabletCore.decide_list_write.Goals as 
 pub returns : goal.returns
 returns g c = rw c.tell.ensures (told_decided g.V.Versions.holds c.args.self.now g.V.Versions.fits None (request.ListWrite c.args.txn c.args.path.now)
     (Others c.in_ok-others.others) tt tt refl
-    (λ h kept fails. ap (λ (fs : List Found). told_only (Others fs)) (sym (c.in_ok-others.ensures (provisional h) (versions h) kept))))
+    (λ h kept fails. ap (λ (fs : List Found). told_only (Others fs)) (sym (c.in_ok-others.ensures (provisional h) (versions h) kept))) c.in_ok-is_up.ensures.up)

@@ -22,4 +22,5 @@ returns-in_ok-single_record-in-Ok g c =
     (λ h kept fails.
     let other = c.in_ok-conflict.ensures (provisional h) (versions h) kept in
     let none : conflict c.args.txn c.args.path.now c.args.fates.now (provisional h) ≡ None = cc in
-    ap (λ (o : Option ℕ). write_answer o None (timed c.args.self.now.log.clock.lease h fails Own floor c.args.reading true (λ w. reply.SingleDone w))) none))
+    ap (λ (o : Option ℕ). write_answer o None (timed c.args.self.now.log.clock.lease h fails Own floor c.args.reading true (λ w. reply.SingleDone w))) none)
+    c.in_ok-is_up.ensures.up)

@@ -21,4 +21,5 @@ returns-in_ok-write_record-in-Ok g c =
     let o_is = greatest_above c.args.read (related_commits c.args.meta.now.txn c.args.path.now c.args.fates.now (provisional h) (versions h)) in
     let decided = c.in_ok-decided.ensures (provisional h) (versions h) kept in
     let go : write_decision.Go ≡ decision c_is o_is = cc in
-    goes c_is o_is (timed c.args.self.now.log.clock.lease h fails Own c.args.seen c.args.reading true (λ w. reply.Written w)) go))
+    goes c_is o_is (timed c.args.self.now.log.clock.lease h fails Own c.args.seen c.args.reading true (λ w. reply.Written w)) go)
+    c.in_ok-is_up.ensures.up)

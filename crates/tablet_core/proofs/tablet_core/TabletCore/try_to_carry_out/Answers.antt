@@ -8,7 +8,7 @@ use Rattle.leased_log.specs.Acts.{Acts}
 use Rattle.tablet_records.specs.Keeps.{Keeps}
 use Rattle.tablet_core.specs.Decisions.{IsUndone, intents_with, versions_with}
 use Rattle.tablet_core.proofs.Performing.{on_err}
-use Rattle.tablet_core.proofs.tablet_core.TabletCore.try_to_perform.Goals as goal
+use Rattle.tablet_core.proofs.tablet_core.TabletCore.try_to_carry_out.Goals as goal
 
 pub returns-clause-done : goal.returns-clause-done
 returns-clause-done g c = record {
