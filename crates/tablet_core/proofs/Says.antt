@@ -22,8 +22,7 @@ use Rattle.conflict_matrix.specs.declared.write_decision.WriteDecision.TheVarian
 use Rattle.conflict_matrix.specs.Decide.{decision}
 use Rattle.leased_log.specs.Decides.{IsPlain, IsTold}
 use Rattle.tablet_records.specs.Keeps.{Keeps, IsRead}
-use Rattle.tablet_core.specs.declared.tablet_core.TabletCore.{TabletCore}
-use Rattle.tablet_core.specs.Stands.{Stands}
+use Rattle.tablet_core.specs.Stands.{CoreState, Stands}
 use Rattle.tablet_core.specs.Decisions.{Says, IsLoggable, IsDecided}
 
 -- what the law on the clock of the tables says
@@ -53,7 +52,7 @@ read_told (reply.Met at path) read = tt
 read_told (reply.Collected rows) read = tt
 read_told _ read = absurd read
 
-module _ {V L : Type 0} (holds : V → List Version → Type 0) (s : TabletCore V L) where
+module _ {V : Type 0} (holds : V → List Version → Type 0) (s : CoreState V) where
   up_of : (bytes : List ℕ) (faults : ℕ) (h : History) → Stands holds s bytes faults h → s.log.down ≡ None → down_since h ≡ None
   up_of bytes faults h st down = sym st.log.down ∙ down
 

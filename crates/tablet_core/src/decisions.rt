@@ -25,7 +25,7 @@ use txn_types::{Fates, Meta, Op, Paths, ReadKind, Refusal, Reply, TxnId, Window}
 
 impl<V: Versions + Drop, L: LogStore> TabletCore<V, L> {
     /// Nothing is decided while the tablet is down.
-    fn is_up(&self) -> Result<(), Undecided>
+    fn ensure_up(&self) -> Result<(), Undecided>
         ensures up { OnOk result (self.now.log.down ≡ None) }
         ensures down { IfErr result (IsUndecided self.now.log.down) }
     {
@@ -39,7 +39,7 @@ impl<V: Versions + Drop, L: LogStore> TabletCore<V, L> {
     pub(crate) fn decide_list_write(&self, txn: TxnId, path: &Path) -> Result<Decision, Undecided>
         ensures { IsDecided V.holds V.fits self.now None (request.ListWrite txn path.now) result }
     {
-        self.is_up()?;
+        self.ensure_up()?;
         let others = self.records.list_write(txn, path)?;
         Ok(Decision::tell(Reply::Others(others)))
     }
@@ -60,7 +60,7 @@ impl<V: Versions + Drop, L: LogStore> TabletCore<V, L> {
         requires fits { V.fits path.now }
         ensures { IsDecided V.holds V.fits self.now (Some reading) (request.Write meta.now number path.now op.now read seen fates.now) result }
     {
-        self.is_up()?;
+        self.ensure_up()?;
         it_is_the_clock_of_the_tables();
         let decided = self.records.decide_write(meta.txn, path, read, fates)?;
         match decided {
@@ -91,7 +91,7 @@ impl<V: Versions + Drop, L: LogStore> TabletCore<V, L> {
         requires fits { V.fits path.now }
         ensures { IsDecided V.holds V.fits self.now (Some reading) (request.Single txn path.now op.now seen fates.now) result }
     {
-        self.is_up()?;
+        self.ensure_up()?;
         it_is_the_clock_of_the_tables();
         let conflict = self.records.decide_single(txn, path, fates)?;
         match conflict {
@@ -119,7 +119,7 @@ impl<V: Versions + Drop, L: LogStore> TabletCore<V, L> {
     ) -> Result<Decision, Undecided>
         ensures { IsDecided V.holds V.fits self.now (Some reading) (request.ListRead own paths.now t g limit) result }
     {
-        self.is_up()?;
+        self.ensure_up()?;
         it_is_the_clock_of_the_tables();
         match self.log.step(reading, t, false) {
             Err(refusal) => Ok(Decision::refuse(refusal_of(refusal))),
@@ -148,7 +148,7 @@ impl<V: Versions + Drop, L: LogStore> TabletCore<V, L> {
         requires { All V.fits paths.now }
         ensures { IsDecided V.holds V.fits self.now None (request.Collect own kind paths.now t window fates.now) result }
     {
-        self.is_up()?;
+        self.ensure_up()?;
         let reply = self.records.collect(own, kind, paths, t, window, fates)?;
         Ok(Decision::tell(reply))
     }
@@ -157,7 +157,7 @@ impl<V: Versions + Drop, L: LogStore> TabletCore<V, L> {
     pub(crate) fn decide_list_intents(&self) -> Result<Decision, Undecided>
         ensures { IsDecided V.holds V.fits self.now None request.ListIntents result }
     {
-        self.is_up()?;
+        self.ensure_up()?;
         let all = self.records.list_intents()?;
         Ok(Decision::tell(Reply::Intents(all)))
     }
@@ -172,7 +172,7 @@ impl<V: Versions + Drop, L: LogStore> TabletCore<V, L> {
     ) -> Result<Decision, Undecided>
         ensures { IsDecided V.holds V.fits self.now (Some reading) (request.Apply txn at) result }
     {
-        self.is_up()?;
+        self.ensure_up()?;
         it_is_the_clock_of_the_tables();
         if !self.records.has_any(txn) {
             return Ok(Decision::tell(Reply::AppliedHere));
@@ -191,7 +191,7 @@ impl<V: Versions + Drop, L: LogStore> TabletCore<V, L> {
     pub(crate) fn decide_clean(&self, txn: TxnId) -> Result<Decision, Undecided>
         ensures { IsDecided V.holds V.fits self.now None (request.Clean txn) result }
     {
-        self.is_up()?;
+        self.ensure_up()?;
         if self.records.has_any(txn) {
             Ok(Decision::log(LogRecord::Clean { txn }, Reply::Cleaned))
         } else {

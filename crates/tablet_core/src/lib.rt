@@ -8,7 +8,6 @@
 #![tactic(auto)]
 
 mod decisions;
-mod fitting_log;
 mod laws;
 mod machine;
 mod replies;

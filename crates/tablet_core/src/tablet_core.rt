@@ -12,28 +12,44 @@ ghost use Rattle.tablet_records.specs.Keeps.{Keeps, PathFits};
 ghost use Rattle.tablet_core.specs.Decisions.{CarriesOut, IfRestarted, IsDone, IsLoggable, IsUndecided, IsUndone, Performs, ServesBy, StaysItself, intents_with, versions_with};
 ghost use Rattle.tablet_core.specs.Restarts.{IsRebuilt, StartsAgain, StaysUnloaded};
 
-use crate::fitting_log::FittingLog;
 use crate::replies::{log_fault, out_of_memory, restarted};
 use crate::undecided::Undecided;
 use doc_path::Path;
 use docdb_base::Memory;
 use docdb_outside::{LoadFault, LogStore};
 use hybrid_time::HybridTime;
-use leased_log::{Decision, the_same_log_stands};
+use leased_log::{Decision, LeasedLog, the_same_log_stands};
 use log_record::LogRecord;
 use regular_records::Versions;
 use std::alloc::Global;
-use tablet_log::a_tablet_is_replayed;
+use std::marker::Model;
+use tablet_log::{a_tablet_is_replayed, bytes_have_one_meaning};
 use tablet_records::TabletRecords;
 use txn_types::{Actor, Fates, Meta, Op, Paths, ReadKind, Served, TxnId, Window};
 
-/// A tablet over versions and a log store.
+/// A tablet over versions and a log store. Each path in a record that its store holds fits the versions, so that a restart can
+/// take in what it loads.
 #[derive(Drop)]
 pub struct TabletCore<V: Versions, L: LogStore> {
     pub(crate) alloc: Global,
     pub(crate) tablet: u32,
-    pub(crate) log: FittingLog<V, L>,
+    pub(crate) log: LeasedLog<L>,
     pub(crate) records: TabletRecords<V>,
+}
+
+impl<V: Versions, L: LogStore> Model for TabletCore<V, L> {
+    ghost use Rattle.tablet_core.specs.Stands.{CoreState};
+    ghost use Rattle.tablet_core.specs.Fitting.{HoldsFitting};
+    ghost use Rattle.std.specs.Coded.{codes};
+    ghost use Rattle.tablet_records.specs.declared.fitting_intents.FittingIntents as intents;
+
+    ghost Value = { CoreState V };
+
+    ghost coded = { Prim.hlevel (codes, intents.the_code V V.code) };
+
+    ghost view = { λ s. record { tablet = s.tablet; log = s.log; records = s.records } };
+
+    ghost invariant = { λ s. HoldsFitting V.fits s.log.held };
 }
 
 impl<V: Versions + Drop, L: LogStore> TabletCore<V, L> {
@@ -59,7 +75,7 @@ impl<V: Versions + Drop, L: LogStore> TabletCore<V, L> {
         TabletCore {
             alloc,
             tablet,
-            log: FittingLog::open(alloc, lease_us, log),
+            log: LeasedLog::open(alloc, lease_us, log),
             records: TabletRecords::new(alloc, versions),
         }
     }
@@ -227,6 +243,7 @@ impl<V: Versions + Drop, L: LogStore> TabletCore<V, L> {
         ensures memory { IsErrOf result LoadFault.Memory → IsUndone V.holds self.old self.new }
         ensures held { self.new.log.held ≡ self.old.log.held }
     {
+        bytes_have_one_meaning();
         let records = match self.log.load() {
             Ok(records) => records,
             Err(fault) => return Err(fault),
@@ -262,7 +279,7 @@ impl<V: Versions + Drop, L: LogStore> TabletCore<V, L> {
         requires room { self.old.log.actions < 2 ^ 62 }
         requires loggable { IsLoggable V.fits decision }
         ensures itself { StaysItself self.old self.new result }
-        ensures carries { CarriesOut V.holds self.old self.new decision result }
+        ensures carries_out { CarriesOut V.holds self.old self.new decision result }
     {
         the_same_log_stands();
         a_tablet_is_replayed();
