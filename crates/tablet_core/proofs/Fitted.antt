@@ -20,7 +20,7 @@ all_joined P [] ys p q = q
 all_joined P (x ∷ xs) ys p q = (p.0, all_joined P xs ys p.1 q)
 
 -- the same bytes
-same_fit : (fits : Parts → Type 0) (before after : List ℕ) → HoldsFitting fits before → after ≡ before → HoldsFitting fits after
+pub same_fit : (fits : Parts → Type 0) (before after : List ℕ) → HoldsFitting fits before → after ≡ before → HoldsFitting fits after
 same_fit fits before after was e = record { records = was.records; holds = record { records = was.holds.records; is = e ∙ was.holds.is }; fit = was.fit }
 
 -- more records

@@ -36,8 +36,7 @@ use Rattle.leased_log.proofs.Holding.{holds_after, acts_loads, acts_faults}
 use Rattle.leased_log.proofs.Advancing.{IsServed, served_by, advances_by}
 use Rattle.tablet_records.specs.declared.tablet_records.TabletRecords.{TabletRecords}
 use Rattle.tablet_records.specs.Keeps.{Keeps}
-use Rattle.tablet_core.specs.declared.tablet_core.TabletCore.{TabletCore}
-use Rattle.tablet_core.specs.Stands.{Stands}
+use Rattle.tablet_core.specs.Stands.{CoreState, Stands}
 use Rattle.tablet_core.specs.Decisions.{Says, StaysItself, IsUndone, IfRestarted, ServesBy, intents_with, versions_with, IsDone, out_of_memory}
 
 -- what the laws of the crates below say
@@ -121,8 +120,8 @@ not_restarted : (r : Reply) (asked : Request) → IsServed r → IfRestarted r (
 not_restarted (reply.Restarted kept) asked served = absurd served
 not_restarted r asked served = tt
 
-module _ {V L : Type 0} (holds : V → List Version → Type 0) where
-  module _ (law : Replayed) (still : Still) (old new : TabletCore V L) (d : Decision) (s : Served) (done : IsDone holds old new d s) where
+module _ {V : Type 0} (holds : V → List Version → Type 0) where
+  module _ (law : Replayed) (still : Still) (old new : CoreState V) (d : Decision) (s : Served) (done : IsDone holds old new d s) where
     module _ (from : Actor) (reading : Option ℕ) (asked : Request) (says : Says holds old (reading_used (takes_time asked) reading) asked d)
         (bytes : List ℕ) (faults : ℕ) (h : History) (st : Stands holds old bytes faults h) where
       abbrev used : Option ℕ
@@ -198,14 +197,14 @@ module _ {V L : Type 0} (holds : V → List Version → Type 0) where
       copy = done.acts.copy;
     }
 
-  pub undone_stands : Still → (old new : TabletCore V L) → IsUndone holds old new → (bytes : List ℕ) (faults : ℕ) (h : History) → Stands holds old bytes faults h → Stands holds new bytes faults h
+  pub undone_stands : Still → (old new : CoreState V) → IsUndone holds old new → (bytes : List ℕ) (faults : ℕ) (h : History) → Stands holds old bytes faults h → Stands holds new bytes faults h
   undone_stands still old new un bytes faults h st = record {
     log = subst (λ (k : ℕ). log.Stands (Tablet k) new.log bytes faults h) (sym un.tablet) (still old.log new.log un.same (Tablet old.tablet) bytes faults h st.log);
     records = λ up. un.records (provisional h) (versions h) (st.records up);
   }
 
   -- if memory runs out
-  pub undone_serves : Still → (old new : TabletCore V L) → IsUndone holds old new → SameCounts old.log new.log → (from : Actor) (reading : Option ℕ) (asked : Request) → ServesBy holds old new from reading asked out_of_memory
+  pub undone_serves : Still → (old new : CoreState V) → IsUndone holds old new → SameCounts old.log new.log → (from : Actor) (reading : Option ℕ) (asked : Request) → ServesBy holds old new from reading asked out_of_memory
   undone_serves still old new un same from reading asked = record {
     advances = undone_stands still old new un;
     fault = λ is. cc;
@@ -215,18 +214,18 @@ module _ {V L : Type 0} (holds : V → List Version → Type 0) where
     faults = λ plain none. same.faults;
   }
 
-  pub undone_itself : (old new : TabletCore V L) → IsUndone holds old new → StaysItself old new out_of_memory
+  pub undone_itself : (old new : CoreState V) → IsUndone holds old new → StaysItself old new out_of_memory
   undone_itself old new un = record { tablet = un.tablet; lease = ap (λ (c : ClockState). c.lease) un.same.clock; held = un.same.held; copy = refl }
 
   -- nothing was done
-  pub still_undone : (s : TabletCore V L) → IsUndone holds s s
+  pub still_undone : (s : CoreState V) → IsUndone holds s s
   still_undone s = record {
     same = record { held = refl; faults = omega arith; loads = omega arith; clock = refl; actions = refl; down = refl; records = refl };
     tablet = refl;
     records = λ ps vs kept. kept;
   }
 
-  pub nothing_serves : (s : TabletCore V L) (from : Actor) (reading : Option ℕ) (asked : Request) → ServesBy holds s s from reading asked out_of_memory
+  pub nothing_serves : (s : CoreState V) (from : Actor) (reading : Option ℕ) (asked : Request) → ServesBy holds s s from reading asked out_of_memory
   nothing_serves s from reading asked = record {
     advances = λ bytes faults h st. st;
     fault = λ is. cc;
@@ -237,10 +236,10 @@ module _ {V L : Type 0} (holds : V → List Version → Type 0) where
   }
 
   -- a request that takes no reading is served alike whether one is given or not
-  pub with_reading : (old new : TabletCore V L) (from : Actor) (reading : Option ℕ) (asked : Request) (s : Served) → ServesBy holds old new from None asked s
+  pub with_reading : (old new : CoreState V) (from : Actor) (reading : Option ℕ) (asked : Request) (s : Served) → ServesBy holds old new from None asked s
       → Advances (Stands holds old) (Stands holds new) old.log.clock.lease (Tablet old.tablet) from reading asked s.reply s → ServesBy holds old new from reading asked s
   with_reading old new from reading asked s by advances =
       record { advances = advances; fault = by.fault; memory = by.memory; restart = by.restart; loads = by.loads; faults = by.faults }
 
-  pub nothing_itself : (s : TabletCore V L) → StaysItself s s out_of_memory
+  pub nothing_itself : (s : CoreState V) → StaysItself s s out_of_memory
   nothing_itself s = record { tablet = refl; lease = refl; held = refl; copy = refl }

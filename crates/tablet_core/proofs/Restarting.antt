@@ -14,8 +14,7 @@ use Rattle.leased_log.specs.Stands.{LogState, IsSame, all_records}
 use Rattle.leased_log.specs.Loads.{failed_load, NotLoaded, restart, HoldsPiece, IsRestarted}
 use Rattle.leased_log.proofs.Parts.{none_of_or}
 use Rattle.tablet_records.specs.Keeps.{Keeps}
-use Rattle.tablet_core.specs.declared.tablet_core.TabletCore.{TabletCore}
-use Rattle.tablet_core.specs.Stands.{Stands}
+use Rattle.tablet_core.specs.Stands.{CoreState, Stands}
 use Rattle.tablet_core.specs.Decisions.{StaysItself, IsUndone, ServesBy, out_of_memory}
 use Rattle.tablet_core.specs.Restarts.{IsRebuilt, StartsAgain, StaysUnloaded, restarted_with, not_loaded}
 use Rattle.tablet_core.proofs.Performing.{Replayed, Still, undone_stands}
@@ -33,8 +32,8 @@ down_after_fault : (a from : Actor) (h : History) → down_since (failed_load a 
 unfolding down_since
 down_after_fault a from h up = none_of_or (down_since h) _ up
 
-module _ {V L : Type 0} (holds : V → List Version → Type 0) where
-  module _ (law : Replayed) (still : Still) (old new : TabletCore V L) (kept_piece : Bool) (again : StartsAgain holds old new kept_piece) (from : Actor)
+module _ {V : Type 0} (holds : V → List Version → Type 0) where
+  module _ (law : Replayed) (still : Still) (old new : CoreState V) (kept_piece : Bool) (again : StartsAgain holds old new kept_piece) (from : Actor)
       (bytes : List ℕ) (faults : ℕ) (h : History) (st : Stands holds old bytes faults h) where
     made : IsRestarted (Tablet old.tablet) again.middle new.log bytes faults h from kept_piece again.found
     made = again.restarts (Tablet old.tablet) bytes faults h from (still old.log again.middle again.same (Tablet old.tablet) bytes faults h st.log)
@@ -50,7 +49,7 @@ module _ {V L : Type 0} (holds : V → List Version → Type 0) where
           (ap tablet_of (sym made.logged) ∙ law again.middle.clock.lease after) again.records;
     }
 
-  pub restart_serves : Replayed → Still → (old new : TabletCore V L) (kept_piece : Bool) → StartsAgain holds old new kept_piece → (from : Actor)
+  pub restart_serves : Replayed → Still → (old new : CoreState V) (kept_piece : Bool) → StartsAgain holds old new kept_piece → (from : Actor)
       → ServesBy holds old new from None Restart (restarted_with kept_piece)
   restart_serves law still old new kept_piece again from = record {
     advances = λ bytes faults h st.
@@ -62,10 +61,11 @@ module _ {V L : Type 0} (holds : V → List Version → Type 0) where
     faults = λ plain none. absurd plain;
   }
 
-  pub rebuilt : Replayed → Still → (old new : TabletCore V L) (kept_piece : Bool) → StartsAgain holds old new kept_piece → IsRebuilt holds old new kept_piece
+  pub rebuilt : Replayed → Still → (old new : CoreState V) (kept_piece : Bool) → StartsAgain holds old new kept_piece → IsRebuilt holds old new kept_piece
   rebuilt law still old new kept_piece again = record {
     found = again.found;
     held = again.held;
+    same = again.starts.held ∙ again.same.held;
     loads = again.loads;
     up = again.starts.down;
     clock = again.starts.clock ∙ ap (λ (c : ClockState). restarted c (lease_in again.found)) again.same.clock;
@@ -75,7 +75,7 @@ module _ {V L : Type 0} (holds : V → List Version → Type 0) where
         piece_of old.log again.middle again.same bytes h kept_piece made_so.keeps;
   }
 
-  pub restart_itself : (old new : TabletCore V L) (kept_piece : Bool) → StartsAgain holds old new kept_piece → StaysItself old new (restarted_with kept_piece)
+  pub restart_itself : (old new : CoreState V) (kept_piece : Bool) → StartsAgain holds old new kept_piece → StaysItself old new (restarted_with kept_piece)
   restart_itself old new kept_piece again = record {
     tablet = again.tablet;
     lease = ap (λ (c : ClockState). c.lease) again.starts.clock ∙ ap (λ (c : ClockState). c.lease) again.same.clock;
@@ -85,7 +85,7 @@ module _ {V L : Type 0} (holds : V → List Version → Type 0) where
 
   -- ---- a load that failed
 
-  pub fault_serves : (old new : TabletCore V L) → StaysUnloaded old new → (from : Actor) → ServesBy holds old new from None Restart not_loaded
+  pub fault_serves : (old new : CoreState V) → StaysUnloaded old new → (from : Actor) → ServesBy holds old new from None Restart not_loaded
   fault_serves old new un from = record {
     advances = λ bytes faults h st.
         let not : NotLoaded (Tablet old.tablet) old.log new.log bytes faults h from = un.stays (Tablet old.tablet) bytes faults h from st.log in (
@@ -103,7 +103,7 @@ module _ {V L : Type 0} (holds : V → List Version → Type 0) where
   }
 
   -- if memory runs out before the restart
-  pub restart_undone : Still → (old new : TabletCore V L) → IsUndone holds old new → (from : Actor) → ServesBy holds old new from None Restart out_of_memory
+  pub restart_undone : Still → (old new : CoreState V) → IsUndone holds old new → (from : Actor) → ServesBy holds old new from None Restart out_of_memory
   restart_undone still old new un from = record {
     advances = undone_stands holds still old new un;
     fault = λ is. cc;
@@ -113,5 +113,5 @@ module _ {V L : Type 0} (holds : V → List Version → Type 0) where
     faults = λ plain none. absurd plain;
   }
 
-  pub fault_itself : (old new : TabletCore V L) → StaysUnloaded old new → StaysItself old new not_loaded
+  pub fault_itself : (old new : CoreState V) → StaysUnloaded old new → StaysItself old new not_loaded
   fault_itself old new un = record { tablet = un.tablet; lease = ap (λ (c : ClockState). c.lease) un.fails.clock; held = un.fails.held; copy = refl }

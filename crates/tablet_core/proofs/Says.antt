@@ -22,8 +22,7 @@ use Rattle.conflict_matrix.specs.declared.write_decision.WriteDecision.TheVarian
 use Rattle.conflict_matrix.specs.Decide.{decision}
 use Rattle.leased_log.specs.Decides.{IsPlain, IsTold}
 use Rattle.tablet_records.specs.Keeps.{Keeps, IsRead}
-use Rattle.tablet_core.specs.declared.tablet_core.TabletCore.{TabletCore}
-use Rattle.tablet_core.specs.Stands.{Stands}
+use Rattle.tablet_core.specs.Stands.{CoreState, Stands}
 use Rattle.tablet_core.specs.Decisions.{Says, IsLoggable, IsDecided}
 
 -- what the law on the clock of the tables says
@@ -53,7 +52,7 @@ read_told (reply.Met at path) read = tt
 read_told (reply.Collected rows) read = tt
 read_told _ read = absurd read
 
-module _ {V L : Type 0} (holds : V → List Version → Type 0) (s : TabletCore V L) where
+module _ {V : Type 0} (holds : V → List Version → Type 0) (s : CoreState V) where
   up_of : (bytes : List ℕ) (faults : ℕ) (h : History) → Stands holds s bytes faults h → s.log.down ≡ None → down_since h ≡ None
   up_of bytes faults h st down = sym st.log.down ∙ down
 
@@ -110,14 +109,15 @@ module _ {V L : Type 0} (holds : V → List Version → Type 0) (s : TabletCore 
 
   pub told_decided : (fits : Parts → Type 0) (reading : Option ℕ) (asked : Request) (r : Reply) → IsPlain asked → IsTold r → ReadingFits (takes_time asked) reading
       → ((h : History) → Keeps holds s.records (provisional h) (versions h) → (fails : Bool) → tablet_up s.log.clock.lease h fails (or_zero reading) asked ≡ told_only r)
-      → IsDecided holds fits s reading asked (record { reply = r; step = None; own = None })
-  told_decided fits reading asked r plain told good up = record { loggable = record { spelled = tt; fit = tt }; says = tells reading asked r plain told good up }
+      → s.log.down ≡ None → IsDecided holds fits s reading asked (Ok (record { reply = r; step = None; own = None }))
+  told_decided fits reading asked r plain told good up down =
+      record { loggable = record { spelled = tt; fit = tt }; says = tells reading asked r plain told good up down; undecided = tt }
 
   module _ (fits : Parts → Type 0) (law : Timed) (reading floor : ℕ) (tick : Bool) where
     pub stepped_decided : (step : Step) → served s.log.clock reading floor tick ≡ Ok step → (asked : Request) (own : Option LogRecord) (r : History → ℕ → Reply) (told : Reply) → IsLoggable fits (record { reply = told; step = Some step; own = own }) → IsPlain asked → IsTold told
         → ReadingFits (takes_time asked) (Some reading) → own_record asked (Some step.time) ≡ option_to_list own
         → ((h : History) → Keeps holds s.records (provisional h) (versions h) → r h step.time ≡ told)
         → ((h : History) → Keeps holds s.records (provisional h) (versions h) → (fails : Bool) → tablet_up s.log.clock.lease h fails reading asked ≡ timed s.log.clock.lease h fails (kind_of tick) floor reading (is_some own) (r h))
-        → IsDecided holds fits s (Some reading) asked (record { reply = told; step = Some step; own = own })
-    stepped_decided step is asked own r told loggable plain is_told good logs replies up =
-        record { loggable = loggable; says = steps law reading floor tick step is asked own r told plain is_told good logs replies up }
+        → s.log.down ≡ None → IsDecided holds fits s (Some reading) asked (Ok (record { reply = told; step = Some step; own = own }))
+    stepped_decided step is asked own r told loggable plain is_told good logs replies up down =
+        record { loggable = loggable; says = steps law reading floor tick step is asked own r told plain is_told good logs replies up down; undecided = tt }

@@ -5,14 +5,13 @@ use Rattle.txn_types.specs.History.{History, counting}
 use Rattle.tablet_log.specs.Entries.{logged_records}
 use Rattle.tablet_log.specs.Replay.{lease_in}
 use Rattle.leased_log.specs.Times.{Rise, AreLeased}
-use Rattle.tablet_core.specs.declared.tablet_core.TabletCore.{TabletCore}
-use Rattle.tablet_core.specs.Stands.{Stands}
+use Rattle.tablet_core.specs.Stands.{CoreState, Stands}
 
 -- the times of the entries that count rise
-abbrev pub TimesRise : {V L : Type 0} → (V → List Version → Type 0) → TabletCore V L → Type 0
+abbrev pub TimesRise : {V : Type 0} → (V → List Version → Type 0) → CoreState V → Type 0
 TimesRise holds s = (bytes : List ℕ) (faults : ℕ) (h : History) → Stands holds s bytes faults h → Rise (counting h)
 
 -- and the last lease in its log covers them
-abbrev pub TimesAreLeased : {V L : Type 0} → (V → List Version → Type 0) → TabletCore V L → Type 0
+abbrev pub TimesAreLeased : {V : Type 0} → (V → List Version → Type 0) → CoreState V → Type 0
 TimesAreLeased holds s = (bytes : List ℕ) (faults : ℕ) (h : History) → Stands holds s bytes faults h
     → AreLeased (lease_in (logged_records s.log.clock.lease h)) (counting h)

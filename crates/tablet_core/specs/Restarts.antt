@@ -14,14 +14,14 @@ use Rattle.tablet_log.specs.Replay.{tablet_of, lease_in}
 use Rattle.leased_log.specs.Stands.{LogState, IsSame}
 use Rattle.leased_log.specs.Loads.{FailsToLoad, StaysDown, StartsFrom, Restarts, HoldsPiece}
 use Rattle.tablet_records.specs.Keeps.{Keeps}
-use Rattle.tablet_core.specs.declared.tablet_core.TabletCore.{TabletCore}
-use Rattle.tablet_core.specs.Stands.{Stands}
+use Rattle.tablet_core.specs.Stands.{CoreState, Stands}
 
 -- It is up again, and stands for what the records that its log holds stand for. A failed piece is kept exactly where there is
 -- one and the store holds it. Its store loaded the log.
-pub record IsRebuilt {V L : Type 0} (holds : V → List Version → Type 0) (old new : TabletCore V L) (kept : Bool) : Type 0 where
+pub record IsRebuilt {V : Type 0} (holds : V → List Version → Type 0) (old new : CoreState V) (kept : Bool) : Type 0 where
   pub found : List LogRecord
   pub held : Holds old.log.held found
+  pub same : new.log.held ≡ old.log.held
   pub loads : Rose old.log.loads new.log.loads
   pub up : new.log.down ≡ None
   pub clock : new.log.clock ≡ restarted old.log.clock (lease_in found)
@@ -29,7 +29,7 @@ pub record IsRebuilt {V L : Type 0} (holds : V → List Version → Type 0) (old
   pub keeps : (bytes : List ℕ) (faults : ℕ) (h : History) → Stands holds old bytes faults h → (kept ≡ true) ↔ HoldsPiece old.log bytes h
 
 -- it starts from the records that its log holds
-pub record StartsAgain {V L : Type 0} (holds : V → List Version → Type 0) (old new : TabletCore V L) (kept : Bool) : Type 0 where
+pub record StartsAgain {V : Type 0} (holds : V → List Version → Type 0) (old new : CoreState V) (kept : Bool) : Type 0 where
   pub middle : LogState
   pub found : List LogRecord
   pub same : IsSame old.log middle
@@ -41,7 +41,7 @@ pub record StartsAgain {V L : Type 0} (holds : V → List Version → Type 0) (o
   pub records : Keeps holds new.records (tablet_of found).intents (tablet_of found).versions
 
 -- its load failed
-pub record StaysUnloaded {V L : Type 0} (old new : TabletCore V L) : Type 0 where
+pub record StaysUnloaded {V : Type 0} (old new : CoreState V) : Type 0 where
   pub fails : FailsToLoad old.log new.log
   pub stays : StaysDown old.log new.log
   pub tablet : new.tablet ≡ old.tablet

@@ -1,14 +1,15 @@
 //! What the table decides of each request while the tablet is up. Nothing is changed.
-ghost use Rattle.std.specs.Prelude.{◌≡◌, ◌&&◌, Option, ℕ, Some, None, IsTrue, IfOk};
+ghost use Rattle.std.specs.Prelude.{◌≡◌, ◌&&◌, Option, ℕ, Some, None, IsTrue, IfOk, IfErr, OnOk};
 ghost use Rattle.std.specs.List.{All};
 ghost use Rattle.txn_data.specs.declared.request.Request.{Request as Asked};
 ghost use Rattle.txn_data.specs.declared.request.Request.TheVariants as request;
 ghost use Rattle.log_record.specs.Spelling.{is_path, is_op};
 ghost use Rattle.txn_types.specs.Tablet.{local_limit};
-ghost use Rattle.tablet_core.specs.Decisions.{IsDecided, IsLoggable, Says};
+ghost use Rattle.tablet_core.specs.Decisions.{IsDecided, IsLoggable, IsUndecided, Says};
 ghost use Rattle.tablet_core.specs.Requests.{IsUpRequest};
 
 use crate::tablet_core::TabletCore;
+use crate::undecided::Undecided;
 use conflict_matrix::WriteDecision;
 use doc_path::Path;
 use docdb_base::{Memory, TryCopy};
@@ -23,10 +24,22 @@ use tablet_records::single_floor;
 use txn_types::{Fates, Meta, Op, Paths, ReadKind, Refusal, Reply, TxnId, Window};
 
 impl<V: Versions + Drop, L: LogStore> TabletCore<V, L> {
-    /// The other transactions with a related provisional write are told.
-    pub(crate) fn decide_list_write(&self, txn: TxnId, path: &Path) -> Result<Decision, Memory>
-        ensures { IfOk result (λ decided. IsDecided V.holds V.fits self.now None (request.ListWrite txn path.now) decided) }
+    /// Nothing is decided while the tablet is down.
+    fn ensure_up(&self) -> Result<(), Undecided>
+        ensures up { OnOk result (self.now.log.down ≡ None) }
+        ensures down { IfErr result (IsUndecided self.now.log.down) }
     {
+        match self.log.down() {
+            Some(since) => Err(Undecided::Down { since }),
+            None => Ok(()),
+        }
+    }
+
+    /// The other transactions with a related provisional write are told.
+    pub(crate) fn decide_list_write(&self, txn: TxnId, path: &Path) -> Result<Decision, Undecided>
+        ensures { IsDecided V.holds V.fits self.now None (request.ListWrite txn path.now) result }
+    {
+        self.ensure_up()?;
         let others = self.records.list_write(txn, path)?;
         Ok(Decision::tell(Reply::Others(others)))
     }
@@ -42,11 +55,12 @@ impl<V: Versions + Drop, L: LogStore> TabletCore<V, L> {
         seen: HybridTime,
         fates: &Fates,
         reading: u64,
-    ) -> Result<Decision, Memory>
+    ) -> Result<Decision, Undecided>
         requires spelled { IsTrue (is_path path.now && is_op op.now) }
         requires fits { V.fits path.now }
-        ensures { IfOk result (λ decided. IsDecided V.holds V.fits self.now (Some reading) (request.Write meta.now number path.now op.now read seen fates.now) decided) }
+        ensures { IsDecided V.holds V.fits self.now (Some reading) (request.Write meta.now number path.now op.now read seen fates.now) result }
     {
+        self.ensure_up()?;
         it_is_the_clock_of_the_tables();
         let decided = self.records.decide_write(meta.txn, path, read, fates)?;
         match decided {
@@ -72,11 +86,12 @@ impl<V: Versions + Drop, L: LogStore> TabletCore<V, L> {
         seen: HybridTime,
         fates: &Fates,
         reading: u64,
-    ) -> Result<Decision, Memory>
+    ) -> Result<Decision, Undecided>
         requires spelled { IsTrue (is_path path.now && is_op op.now) }
         requires fits { V.fits path.now }
-        ensures { IfOk result (λ decided. IsDecided V.holds V.fits self.now (Some reading) (request.Single txn path.now op.now seen fates.now) decided) }
+        ensures { IsDecided V.holds V.fits self.now (Some reading) (request.Single txn path.now op.now seen fates.now) result }
     {
+        self.ensure_up()?;
         it_is_the_clock_of_the_tables();
         let conflict = self.records.decide_single(txn, path, fates)?;
         match conflict {
@@ -101,9 +116,10 @@ impl<V: Versions + Drop, L: LogStore> TabletCore<V, L> {
         g: HybridTime,
         limit: Option<HybridTime>,
         reading: u64,
-    ) -> Result<Decision, Memory>
-        ensures { IfOk result (λ decided. IsDecided V.holds V.fits self.now (Some reading) (request.ListRead own paths.now t g limit) decided) }
+    ) -> Result<Decision, Undecided>
+        ensures { IsDecided V.holds V.fits self.now (Some reading) (request.ListRead own paths.now t g limit) result }
     {
+        self.ensure_up()?;
         it_is_the_clock_of_the_tables();
         match self.log.step(reading, t, false) {
             Err(refusal) => Ok(Decision::refuse(refusal_of(refusal))),
@@ -128,53 +144,62 @@ impl<V: Versions + Drop, L: LogStore> TabletCore<V, L> {
         t: HybridTime,
         window: Option<Window>,
         fates: &Fates,
-    ) -> Result<Decision, Memory>
+    ) -> Result<Decision, Undecided>
         requires { All V.fits paths.now }
-        ensures { IfOk result (λ decided. IsDecided V.holds V.fits self.now None (request.Collect own kind paths.now t window fates.now) decided) }
+        ensures { IsDecided V.holds V.fits self.now None (request.Collect own kind paths.now t window fates.now) result }
     {
+        self.ensure_up()?;
         let reply = self.records.collect(own, kind, paths, t, window, fates)?;
         Ok(Decision::tell(reply))
     }
 
     /// All transactions with provisional writes are told.
-    pub(crate) fn decide_list_intents(&self) -> Result<Decision, Memory>
-        ensures { IfOk result (λ decided. IsDecided V.holds V.fits self.now None request.ListIntents decided) }
+    pub(crate) fn decide_list_intents(&self) -> Result<Decision, Undecided>
+        ensures { IsDecided V.holds V.fits self.now None request.ListIntents result }
     {
+        self.ensure_up()?;
         let all = self.records.list_intents()?;
         Ok(Decision::tell(Reply::Intents(all)))
     }
 
     /// At a time that is not below `at` the provisional writes of the transaction become versions. Without any nothing is
     /// done.
-    pub(crate) fn decide_apply(&self, txn: TxnId, at: HybridTime, reading: u64) -> Decision
+    pub(crate) fn decide_apply(
+        &self,
+        txn: TxnId,
+        at: HybridTime,
+        reading: u64,
+    ) -> Result<Decision, Undecided>
         ensures { IsDecided V.holds V.fits self.now (Some reading) (request.Apply txn at) result }
     {
+        self.ensure_up()?;
         it_is_the_clock_of_the_tables();
         if !self.records.has_any(txn) {
-            return Decision::tell(Reply::AppliedHere);
+            return Ok(Decision::tell(Reply::AppliedHere));
         }
         match self.log.step(reading, at, false) {
-            Err(refusal) => Decision::refuse(refusal_of(refusal)),
-            Ok(step) => Decision {
+            Err(refusal) => Ok(Decision::refuse(refusal_of(refusal))),
+            Ok(step) => Ok(Decision {
                 reply: Reply::AppliedHere,
                 step: Some(step),
                 own: Some(LogRecord::Apply { txn, at }),
-            },
+            }),
         }
     }
 
     /// The provisional writes of the transaction go. Without any nothing is done.
-    pub(crate) fn decide_clean(&self, txn: TxnId) -> Decision
+    pub(crate) fn decide_clean(&self, txn: TxnId) -> Result<Decision, Undecided>
         ensures { IsDecided V.holds V.fits self.now None (request.Clean txn) result }
     {
+        self.ensure_up()?;
         if self.records.has_any(txn) {
-            Decision::log(LogRecord::Clean { txn }, Reply::Cleaned)
+            Ok(Decision::log(LogRecord::Clean { txn }, Reply::Cleaned))
         } else {
-            Decision::tell(Reply::Cleaned)
+            Ok(Decision::tell(Reply::Cleaned))
         }
     }
 
-    /// A request that is refused since the tablet is down.
+    /// Any request is refused, since the tablet is down.
     pub(crate) fn refuse_down(&self, since: u64) -> Decision
         requires { self.now.log.down ≡ Some since }
         ensures loggable { IsLoggable V.fits result }

@@ -8,11 +8,11 @@
 #![tactic(auto)]
 
 mod decisions;
-mod fitting_log;
 mod laws;
 mod machine;
 mod replies;
 mod tablet_core;
+mod undecided;
 
 pub use laws::{times_are_leased, times_rise};
 pub use tablet_core::TabletCore;

@@ -1,5 +1,5 @@
 //! A tablet.
-ghost use Rattle.std.specs.Prelude.{◌≡◌, ◌&&◌, ◌≤◌, ◌<◌, ◌^◌, List, [], Some, None, IsTrue, OnOk, OnErr, IfOk, IfSome, IsErrOf, option_copied};
+ghost use Rattle.std.specs.Prelude.{◌≡◌, ◌&&◌, ◌≤◌, ◌<◌, ◌^◌, List, [], Some, None, IsTrue, OnOk, OnErr, IfOk, IfErr, IfSome, IsErrOf, option_copied};
 ghost use Rattle.std.specs.List.{All};
 ghost use Rattle.txn_data.specs.declared.request.Request.TheVariants as request;
 ghost use Rattle.txn_data.specs.declared.version.Version.{Version};
@@ -9,30 +9,47 @@ ghost use Rattle.safe_time.specs.ActorClock.{at_first};
 ghost use Rattle.tablet_core.specs.Stands.{Stands};
 ghost use Rattle.leased_log.specs.Acts.{SameCounts};
 ghost use Rattle.tablet_records.specs.Keeps.{Keeps, PathFits};
-ghost use Rattle.tablet_core.specs.Decisions.{IfRestarted, IsDone, IsLoggable, IsUndone, Performs, ServesBy, StaysItself, intents_with, versions_with};
+ghost use Rattle.tablet_core.specs.Decisions.{CarriesOut, IfRestarted, IsDone, IsLoggable, IsUndecided, IsUndone, Performs, ServesBy, StaysItself, intents_with, versions_with};
 ghost use Rattle.tablet_core.specs.Restarts.{IsRebuilt, StartsAgain, StaysUnloaded};
 
-use crate::fitting_log::FittingLog;
 use crate::replies::{log_fault, out_of_memory, restarted};
+use crate::undecided::Undecided;
 use doc_path::Path;
 use docdb_base::Memory;
 use docdb_outside::{LoadFault, LogStore};
 use hybrid_time::HybridTime;
-use leased_log::{Decision, the_same_log_stands};
+use leased_log::{Decision, LeasedLog, the_same_log_stands};
 use log_record::LogRecord;
 use regular_records::Versions;
 use std::alloc::Global;
-use tablet_log::a_tablet_is_replayed;
+use std::marker::Model;
+use tablet_log::{a_tablet_is_replayed, bytes_have_one_meaning};
 use tablet_records::TabletRecords;
 use txn_types::{Actor, Fates, Meta, Op, Paths, ReadKind, Served, TxnId, Window};
 
-/// A tablet over versions and a log store.
+/// A tablet over versions and a log store. Each path in a record that its store holds fits the versions, so that a restart can
+/// take in what it loads.
 #[derive(Drop)]
 pub struct TabletCore<V: Versions, L: LogStore> {
     pub(crate) alloc: Global,
     pub(crate) tablet: u32,
-    pub(crate) log: FittingLog<V, L>,
+    pub(crate) log: LeasedLog<L>,
     pub(crate) records: TabletRecords<V>,
+}
+
+impl<V: Versions, L: LogStore> Model for TabletCore<V, L> {
+    ghost use Rattle.tablet_core.specs.Stands.{CoreState};
+    ghost use Rattle.tablet_core.specs.Fitting.{HoldsFitting};
+    ghost use Rattle.std.specs.Coded.{codes};
+    ghost use Rattle.tablet_records.specs.declared.fitting_intents.FittingIntents as intents;
+
+    ghost Value = { CoreState V };
+
+    ghost coded = { Prim.hlevel (codes, intents.the_code V V.code) };
+
+    ghost view = { λ s. record { tablet = s.tablet; log = s.log; records = s.records } };
+
+    ghost invariant = { λ s. HoldsFitting V.fits s.log.held };
 }
 
 impl<V: Versions + Drop, L: LogStore> TabletCore<V, L> {
@@ -58,7 +75,7 @@ impl<V: Versions + Drop, L: LogStore> TabletCore<V, L> {
         TabletCore {
             alloc,
             tablet,
-            log: FittingLog::open(alloc, lease_us, log),
+            log: LeasedLog::open(alloc, lease_us, log),
             records: TabletRecords::new(alloc, versions),
         }
     }
@@ -80,14 +97,8 @@ impl<V: Versions + Drop, L: LogStore> TabletCore<V, L> {
         ensures itself { StaysItself self.old self.new result }
         ensures serves { ServesBy V.holds self.old self.new _from None (request.ListWrite txn path.now) result }
     {
-        if let Some(since) = self.log.down() {
-            let refused = self.refuse_down(since);
-            return self.perform(refused);
-        }
-        match self.decide_list_write(txn, path) {
-            Ok(decision) => self.perform(decision),
-            Err(_) => out_of_memory(),
-        }
+        let decided = self.decide_list_write(txn, path);
+        self.perform(decided)
     }
 
     /// Makes a write of a transaction provisional, the `number`-th of it, whose read time is `read`, at a time above `seen`;
@@ -110,14 +121,8 @@ impl<V: Versions + Drop, L: LogStore> TabletCore<V, L> {
         ensures itself { StaysItself self.old self.new result }
         ensures serves { ServesBy V.holds self.old self.new _from (Some reading) (request.Write meta.now number path.now op.now read seen fates.now) result }
     {
-        if let Some(since) = self.log.down() {
-            let refused = self.refuse_down(since);
-            return self.perform(refused);
-        }
-        match self.decide_write(meta, number, path, op, read, seen, fates, reading) {
-            Ok(decision) => self.perform(decision),
-            Err(_) => out_of_memory(),
-        }
+        let decided = self.decide_write(meta, number, path, op, read, seen, fates, reading);
+        self.perform(decided)
     }
 
     /// Commits a write alone, at a time above `seen` and above the commit times that `fates` tell; `reading` is in
@@ -138,14 +143,8 @@ impl<V: Versions + Drop, L: LogStore> TabletCore<V, L> {
         ensures itself { StaysItself self.old self.new result }
         ensures serves { ServesBy V.holds self.old self.new _from (Some reading) (request.Single txn path.now op.now seen fates.now) result }
     {
-        if let Some(since) = self.log.down() {
-            let refused = self.refuse_down(since);
-            return self.perform(refused);
-        }
-        match self.decide_single(txn, path, op, seen, fates, reading) {
-            Ok(decision) => self.perform(decision),
-            Err(_) => out_of_memory(),
-        }
+        let decided = self.decide_single(txn, path, op, seen, fates, reading);
+        self.perform(decided)
     }
 
     /// Tells a read of `paths` at `t` its local limit, which is the given one or else not above `g`, and the transactions
@@ -164,14 +163,8 @@ impl<V: Versions + Drop, L: LogStore> TabletCore<V, L> {
         ensures itself { StaysItself self.old self.new result }
         ensures serves { ServesBy V.holds self.old self.new _from (Some reading) (request.ListRead own paths.now t g limit) result }
     {
-        if let Some(since) = self.log.down() {
-            let refused = self.refuse_down(since);
-            return self.perform(refused);
-        }
-        match self.decide_list_read(own, paths, t, g, limit, reading) {
-            Ok(decision) => self.perform(decision),
-            Err(_) => out_of_memory(),
-        }
+        let decided = self.decide_list_read(own, paths, t, g, limit, reading);
+        self.perform(decided)
     }
 
     /// Tells what a read of `paths` at `t` meets in its window, or else its rows; `fates` are what it was told of other
@@ -191,14 +184,8 @@ impl<V: Versions + Drop, L: LogStore> TabletCore<V, L> {
         ensures itself { StaysItself self.old self.new result }
         ensures serves { ServesBy V.holds self.old self.new _from None (request.Collect own kind paths.now t window fates.now) result }
     {
-        if let Some(since) = self.log.down() {
-            let refused = self.refuse_down(since);
-            return self.perform(refused);
-        }
-        match self.decide_collect(own, kind, paths, t, window, fates) {
-            Ok(decision) => self.perform(decision),
-            Err(_) => out_of_memory(),
-        }
+        let decided = self.decide_collect(own, kind, paths, t, window, fates);
+        self.perform(decided)
     }
 
     /// Tells all transactions with provisional writes.
@@ -207,14 +194,8 @@ impl<V: Versions + Drop, L: LogStore> TabletCore<V, L> {
         ensures itself { StaysItself self.old self.new result }
         ensures serves { ServesBy V.holds self.old self.new _from None request.ListIntents result }
     {
-        if let Some(since) = self.log.down() {
-            let refused = self.refuse_down(since);
-            return self.perform(refused);
-        }
-        match self.decide_list_intents() {
-            Ok(decision) => self.perform(decision),
-            Err(_) => out_of_memory(),
-        }
+        let decided = self.decide_list_intents();
+        self.perform(decided)
     }
 
     /// The provisional writes of a transaction become versions at its commit time `at`; `reading` is in microseconds.
@@ -223,12 +204,8 @@ impl<V: Versions + Drop, L: LogStore> TabletCore<V, L> {
         ensures itself { StaysItself self.old self.new result }
         ensures serves { ServesBy V.holds self.old self.new _from (Some reading) (request.Apply txn at) result }
     {
-        if let Some(since) = self.log.down() {
-            let refused = self.refuse_down(since);
-            return self.perform(refused);
-        }
-        let decision = self.decide_apply(txn, at, reading);
-        self.perform(decision)
+        let decided = self.decide_apply(txn, at, reading);
+        self.perform(decided)
     }
 
     /// The provisional writes of a transaction go.
@@ -237,12 +214,8 @@ impl<V: Versions + Drop, L: LogStore> TabletCore<V, L> {
         ensures itself { StaysItself self.old self.new result }
         ensures serves { ServesBy V.holds self.old self.new _from None (request.Clean txn) result }
     {
-        if let Some(since) = self.log.down() {
-            let refused = self.refuse_down(since);
-            return self.perform(refused);
-        }
-        let decision = self.decide_clean(txn);
-        self.perform(decision)
+        let decided = self.decide_clean(txn);
+        self.perform(decided)
     }
 
     /// Loads its log, and starts again from what it holds.
@@ -251,6 +224,7 @@ impl<V: Versions + Drop, L: LogStore> TabletCore<V, L> {
         ensures itself { StaysItself self.old self.new result }
         ensures serves { ServesBy V.holds self.old self.new _from None request.Restart result }
         ensures rebuilt { IfRestarted result.reply (IsRebuilt V.holds self.old self.new) }
+        ensures held { self.new.log.held ≡ self.old.log.held }
     {
         the_same_log_stands();
         a_tablet_is_replayed();
@@ -267,7 +241,9 @@ impl<V: Versions + Drop, L: LogStore> TabletCore<V, L> {
         ensures done { IfOk result (λ kept. StartsAgain V.holds self.old self.new kept) }
         ensures failed { IsErrOf result LoadFault.Failed → StaysUnloaded self.old self.new }
         ensures memory { IsErrOf result LoadFault.Memory → IsUndone V.holds self.old self.new }
+        ensures held { self.new.log.held ≡ self.old.log.held }
     {
+        bytes_have_one_meaning();
         let records = match self.log.load() {
             Ok(records) => records,
             Err(fault) => return Err(fault),
@@ -279,22 +255,41 @@ impl<V: Versions + Drop, L: LogStore> TabletCore<V, L> {
         Ok(self.log.restart(&records))
     }
 
-    /// Does what was decided. If memory runs out, all is as before.
-    pub(crate) fn perform(&mut self, decision: Decision) -> Served
+    /// Does what was decided of a request. While the tablet is down the request is refused. If memory runs out, all is as
+    /// before.
+    fn perform(&mut self, decided: Result<Decision, Undecided>) -> Served
+        requires room { self.old.log.actions < 2 ^ 62 }
+        requires loggable { IfOk decided (IsLoggable V.fits) }
+        requires undecided { IfErr decided (IsUndecided self.old.log.down) }
+        ensures itself { StaysItself self.old self.new result }
+        ensures performs { Performs V.holds self.old self.new decided result }
+    {
+        match decided {
+            Ok(decision) => self.carry_out(decision),
+            Err(Undecided::Down { since }) => {
+                let refused = self.refuse_down(since);
+                self.carry_out(refused)
+            }
+            Err(Undecided::Memory) => out_of_memory(),
+        }
+    }
+
+    /// Does this. If memory runs out, all is as before.
+    fn carry_out(&mut self, decision: Decision) -> Served
         requires room { self.old.log.actions < 2 ^ 62 }
         requires loggable { IsLoggable V.fits decision }
         ensures itself { StaysItself self.old self.new result }
-        ensures performs { Performs V.holds self.old self.new decision result }
+        ensures carries_out { CarriesOut V.holds self.old self.new decision result }
     {
         the_same_log_stands();
         a_tablet_is_replayed();
-        match self.try_to_perform(decision) {
+        match self.try_to_carry_out(decision) {
             Ok(served) => served,
             Err(_) => out_of_memory(),
         }
     }
 
-    fn try_to_perform(&mut self, decision: Decision) -> Result<Served, Memory>
+    fn try_to_carry_out(&mut self, decision: Decision) -> Result<Served, Memory>
         requires room { self.old.log.actions < 2 ^ 62 }
         requires loggable { IsLoggable V.fits decision }
         ensures done { IfOk result (λ served. IsDone V.holds self.old self.new decision served) }

@@ -1,4 +1,4 @@
-use Rattle.std.proofs.Common.{None, List, refl, sym, ap}
+use Rattle.std.proofs.Common.{None, List, refl, sym, ap, rules}
 use Rattle.txn_data.specs.declared.found.Found.{Found}
 use Rattle.txn_data.specs.declared.reply.Reply.TheVariants.{Others}
 use Rattle.txn_data.specs.declared.request.Request.TheVariants as request
@@ -8,6 +8,6 @@ use Rattle.tablet_core.proofs.Says.{told_decided}
 use Rattle.tablet_core.proofs.tablet_core.TabletCore.decide_list_write.Goals as goal
 
 pub returns : goal.returns
-returns g c = rw c.tell.ensures (told_decided g.V.Versions.holds c.args.self.now g.V.Versions.fits None (request.ListWrite c.args.txn c.args.path.now)
+returns g c = rw (c.tell.ensures, ← c.self.view_is) (told_decided g.V.Versions.holds _ g.V.Versions.fits None (request.ListWrite c.args.txn c.args.path.now)
     (Others c.in_ok-others.others) tt tt refl
-    (λ h kept fails. ap (λ (fs : List Found). told_only (Others fs)) (sym (c.in_ok-others.ensures (provisional h) (versions h) kept))))
+    (λ h kept fails. ap (λ (fs : List Found). told_only (Others fs)) (sym (c.in_ok-others.ensures (provisional h) (versions h) kept))) (search rules))

@@ -1,14 +1,6 @@
-use Rattle.std.proofs.Common.{None, refl, rules}
+use Rattle.std.proofs.Common.{None, refl}
 use Rattle.txn_data.specs.declared.request.Request.TheVariants as request
-use Rattle.tablet_core.proofs.Performing.{nothing_serves}
 use Rattle.tablet_core.proofs.tablet_core.TabletCore.list_intents.Goals as goal
 
-pub returns-in-Some-clause-serves : goal.returns-in-Some-clause-serves
-returns-in-Some-clause-serves g c =
-    c.perform.ensures.performs c.args._from None request.ListIntents (c.refuse_down-refused.ensures.says None request.ListIntents (tt, tt, refl))
-
-pub returns-in-Ok-clause-serves : goal.returns-in-Ok-clause-serves
-returns-in-Ok-clause-serves g c = c.perform-in-Ok.ensures.performs c.args._from None request.ListIntents (c.in-Ok.ensures.says (search rules))
-
-pub returns-in-Err-clause-serves : goal.returns-in-Err-clause-serves
-returns-in-Err-clause-serves g c = rw c.out_of_memory.ensures (nothing_serves g.V.Versions.holds c.args.self.now c.args._from None request.ListIntents)
+pub returns-clause-serves : goal.returns-clause-serves
+returns-clause-serves g c = c.perform.ensures.performs c.args._from None request.ListIntents (tt, tt, refl) c.decide_list_intents-decided.ensures.says

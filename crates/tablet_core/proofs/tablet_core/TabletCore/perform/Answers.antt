@@ -1,17 +1,8 @@
-use Rattle.tablet_core.proofs.Performing.{performs, done_itself, undone_serves, undone_itself}
+use Rattle.std.proofs.lemmas.Result.{IfOk-at_ok}
 use Rattle.tablet_core.proofs.tablet_core.TabletCore.perform.Goals as goal
 
 pub returns-in-Ok-clause-performs : goal.returns-in-Ok-clause-performs
-returns-in-Ok-clause-performs g c from reading asked says =
-    performs g.V.Versions.holds c.a_tablet_is_replayed.ensures c.the_same_log_stands.ensures c.args.self.now c.try_to_perform.new.self c.args.decision c.in-Ok.served c.in-Ok.ensures.done from reading asked says
+returns-in-Ok-clause-performs g c from reading asked up says = c.carry_out.ensures.carries_out from reading asked (IfOk-at_ok _ c.in-Ok.is says)
 
-pub returns-in-Ok-clause-itself : goal.returns-in-Ok-clause-itself
-returns-in-Ok-clause-itself g c =
-    done_itself g.V.Versions.holds c.a_tablet_is_replayed.ensures c.the_same_log_stands.ensures c.args.self.now c.try_to_perform.new.self c.args.decision c.in-Ok.served c.in-Ok.ensures.done
-
-pub returns-in-Err-clause-performs : goal.returns-in-Err-clause-performs
-returns-in-Err-clause-performs g c from reading asked says =
-    rw c.out_of_memory.ensures (undone_serves g.V.Versions.holds c.the_same_log_stands.ensures c.args.self.now c.try_to_perform.new.self c.in-Err.ensures.memory c.in-Err.ensures.counts from reading asked)
-
-pub returns-in-Err-clause-itself : goal.returns-in-Err-clause-itself
-returns-in-Err-clause-itself g c = rw c.out_of_memory.ensures (undone_itself g.V.Versions.holds c.args.self.now c.try_to_perform.new.self c.in-Err.ensures.memory)
+pub returns-in-Err-Down-clause-performs : goal.returns-in-Err-Down-clause-performs
+returns-in-Err-Down-clause-performs g c from reading asked up says = c.carry_out-in-Err-Down.ensures.carries_out from reading asked (c.refuse_down-refused.ensures.says _ asked up)

@@ -10,17 +10,17 @@ use Rattle.tablet_core.proofs.tablet_core.TabletCore.try_to_restart.Goals as goa
 pub returns-in-Err-clause-failed : goal.returns-in-Err-clause-failed
 returns-in-Err-clause-failed g c is =
     let same : c.in-Err.fault ≡ Failed = cc in
-    record { fails = c.in-Err.ensures.failed (ap Err same); stays = c.in-Err.ensures.not_loaded (ap Err same); tablet = refl }
+    rw (← c.self.view_is) (record { fails = c.in-Err.ensures.failed (ap Err same); stays = c.in-Err.ensures.not_loaded (ap Err same); tablet = refl })
 
 pub returns-clause-done : goal.returns-clause-done
-returns-clause-done g c = record {
+returns-clause-done g c = rw (← c.self.view_is) (record {
   middle = c.load.new.self;
   found = c.in-Ok.records.items;
   same = c.in-Ok.ensures.same;
   held = c.in-Ok.ensures.found;
-  loads = subst (λ (n : ℕ). Rose c.args.self.now.log.loads n) (sym c.restart.ensures.starts.loads) c.in-Ok.ensures.loaded;
+  loads = subst (λ (n : ℕ). Rose c.self.inside.log.loads n) (sym c.restart.ensures.starts.loads) c.in-Ok.ensures.loaded;
   starts = subst (λ (rs : List LogRecord). StartsFrom c.load.new.self c.restart.new.self c.restart.result rs) c.deref-2.ensures.value c.restart.ensures.starts;
   restarts = subst (λ (rs : List LogRecord). Restarts c.load.new.self c.restart.new.self c.restart.result rs) c.deref-2.ensures.value c.restart.ensures.restarts;
   tablet = refl;
   records = subst (λ (rs : List LogRecord). Keeps g.V.Versions.holds c.in-Ok-replayed.rebuilt (tablet_of rs).intents (tablet_of rs).versions) c.deref.ensures.value c.in-Ok-replayed.ensures;
-}
+})
