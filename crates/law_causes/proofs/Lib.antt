@@ -1,0 +1,12 @@
+pub mod Goes
+pub mod Programs
+pub mod Tables
+pub mod Overlaps
+pub mod Aborts
+pub mod Lines
+pub mod Since
+pub mod Ranges
+pub mod Heard
+pub mod Found
+pub mod Doubts
+pub mod Runs
