@@ -38,7 +38,7 @@ use Rattle.law_courses.specs.Laws.{CouldStart, CameAbout}
 use Rattle.law_courses.proofs.Parts.{part_refl}
 use Rattle.law_courses.proofs.Courses.{told_came_about}
 use Rattle.law_causes.proofs.Goes.{Goes, goes_came}
-use Rattle.law_causes.proofs.Tables.{served_says}
+use Rattle.law_refusals.proofs.Tables.{served_says}
 use Rattle.law_causes.proofs.Heard.{Heard, all_heard}
 
 -- ## how a command leaves a transaction in doubt

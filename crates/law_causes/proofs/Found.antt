@@ -26,9 +26,10 @@ use Rattle.txn_types.specs.Run.{Run, mover_at}
 use Rattle.txn_types.specs.Cause.{ToldAt, ServedAt, CauseOf, newcomers, found_ids, is_strict}
 use Rattle.law_machines.proofs.Basics.{eq_cases}
 use Rattle.law_causes.proofs.Goes.{IsPlain, Settle, Listed, Because, ByMachine, ByWrite, ByPending, ByAborted, ByMet, OutOfMemory}
-use Rattle.law_causes.proofs.Tables.{Explains, ConflictsAt, OverlapsThen, served_says, reading_of, pending_at, aborted_at}
-use Rattle.law_causes.proofs.Overlaps.{overlap_commit}
-use Rattle.law_causes.proofs.Aborts.{aborted_resolved}
+use Rattle.law_refusals.specs.Refusals.{Explains, ConflictsAt, OverlapsThen}
+use Rattle.law_refusals.proofs.Tables.{served_says, reading_of, pending_at, aborted_at}
+use Rattle.law_refusals.proofs.Overlaps.{overlap_commit}
+use Rattle.law_refusals.proofs.Aborts.{aborted_resolved}
 use Rattle.law_causes.proofs.Lines.{MayNotRestart}
 use Rattle.law_causes.proofs.Heard.{Heard}
 use Rattle.law_courses.specs.Course.{entry_of}

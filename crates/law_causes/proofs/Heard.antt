@@ -17,7 +17,8 @@ use Rattle.law_machines.specs.Own.{StandsOver}
 use Rattle.law_machines.proofs.Owns.{steps_at}
 use Rattle.law_courses.specs.Course.{entry_of}
 use Rattle.law_causes.proofs.Goes.{AllHeard}
-use Rattle.law_causes.proofs.Since.{in_since}
+use Rattle.law_refusals.proofs.Since.{in_since}
+use Rattle.law_refusals.proofs.Runs.{allowed_last}
 
 pub record Heard (config : Config) (m : Actor) (h : History) (a : Actor) (asked : Request) (r : Reply) : Type 0 where
   pub reading : Option ℕ
@@ -33,16 +34,12 @@ not_telling : (m a : Actor) (reading own_reading : Option ℕ) (asked : Request)
     StandsOver (entry_of a reading (Serve m asked r time append)) before (entry_of m own_reading (Tell number t) ∷ h) → StandsOver (entry_of a reading (Serve m asked r time append)) before h
 not_telling m a reading own_reading asked r time append number t before h stands = elim stands [ inl here ↦ let wrong : Tell number t ≡ Serve m asked r time append = ap (λ (e : Entry). e.event) here.0 in cc | inr deeper ↦ deeper ]
 
-unfolded : (config : Config) (e : Entry) (h : History) → Steps config (e ∷ h) → Allowed config h e.actor e.reading e.event
-unfolding Steps
-unfolded config e h steps = steps.1
-
 -- over the history before the entry that tells
 pub all_heard : (config : Config) (m : Actor) (reading : Option ℕ) (number : ℕ) (t : Told) (h : History) → Steps config h → AllHeard (Heard config m h) m (entry_of m reading (Tell number t) ∷ h) (before_start m h)
 all_heard config m reading number t h steps to asked a =
     let stands = not_telling m to a.reading reading asked a.reply a.time a.append number t a.before h a.stands in
     let e = entry_of to a.reading (Serve m asked a.reply a.time a.append) in
-    let ok : Allowed config a.before to a.reading (Serve m asked a.reply a.time a.append) = unfolded config e a.before (steps_at config e a.before h steps stands) in
+    let ok : Allowed config a.before to a.reading (Serve m asked a.reply a.time a.append) = allowed_last config e a.before (steps_at config e a.before h steps stands) in
     record {
       reading = a.reading;
       time = a.time;

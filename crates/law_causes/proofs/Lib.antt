@@ -1,10 +1,6 @@
 pub mod Goes
 pub mod Programs
-pub mod Tables
-pub mod Overlaps
-pub mod Aborts
 pub mod Lines
-pub mod Since
 pub mod Ranges
 pub mod Heard
 pub mod Found

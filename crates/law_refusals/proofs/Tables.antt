@@ -26,30 +26,9 @@ use Rattle.txn_types.specs.History.{History}
 use Rattle.txn_types.specs.Clock.{Answer, told_only, refusal_answer, logged, timed, timed_answer, time_refused, holds, clock_time, Kind, Own, Floor, lease_due, lease_end, last_time, has_given, down_since}
 use Rattle.txn_types.specs.Tablet.{tablet_answer, tablet_up, tablet_standing, write_answer, has_any, provisional, conflict, greatest_above, related_commits, versions, greatest_fate, founds, others_on, listed, local_limit, considered, collected, met_under}
 use Rattle.txn_types.specs.Status.{status_answer, status_up, status_standing, record_of, commit_answer, fate_told, Record, NoRecord, Pending, Committed, AbortedBy, abort_answer, resolved, may_forget, is_sure, noted}
+use Rattle.law_refusals.specs.Refusals.{ConflictsAt, OverlapsThen, Explains}
 use Rattle.txn_types.specs.Run.{ReadingFits, Serves, machine_answer}
 use Rattle.txn_types.specs.Cause.{needs_time, floor_asked, is_pending, Fails, IsRestart}
-
-abbrev pub ConflictsAt : Request → History → ℕ → Type 0
-ConflictsAt (request.Write meta number path op read seen fates) o other = conflict meta.txn path fates (provisional o) ≡ Some other
-ConflictsAt (request.Single x path op seen fates) o other = conflict x path fates (provisional o) ≡ Some other
-ConflictsAt asked o other = ⊥
-
-abbrev pub OverlapsThen : Request → History → ℕ → Type 0
-OverlapsThen (request.Write meta number path op read seen fates) o at =
-    (conflict meta.txn path fates (provisional o) ≡ None) × (greatest_above read (related_commits meta.txn path fates (provisional o) (versions o)) ≡ Some at)
-OverlapsThen asked o at = ⊥
-
--- what a refusal says of the entries then
-abbrev pub Explains : ℕ → History → Option ℕ → Request → Append → Refusal → Type 0
-Explains lease o reading asked append (refusal.Conflict other) = ConflictsAt asked o other
-Explains lease o reading asked append (refusal.Overlap at) = OverlapsThen asked o at
-Explains lease o reading asked append (refusal.LeaseHeld until) = (needs_time asked o ≡ true) × (lease_end lease o ≡ Some until) × (has_given o ≡ false) × (or_zero reading ≤ until)
-Explains lease o reading asked append (refusal.ClockFull at) =
-    (needs_time asked o ≡ true) × ((floor : ℕ) × (floor_asked asked ≡ Some floor) × (at ≡ max (last_time o) floor)) × (logical_of at ≡ 4095) × (or_zero reading ≤ micros_of at)
-Explains lease o reading asked append (refusal.ClockRange n) = (needs_time asked o ≡ true) × (greatest_reading < n) × (or_zero reading ≡ n)
-Explains lease o reading asked append refusal.LogFault = Fails asked append
-Explains lease o reading asked append (refusal.Down since) = (IsRestart asked → ⊥) × (down_since o ≡ Some since)
-Explains lease o reading asked append refusal.Memory = Unit {0}
 
 -- each refusal of this answer is explained
 abbrev pub Says : ℕ → History → Option ℕ → Request → Answer → Type 0
