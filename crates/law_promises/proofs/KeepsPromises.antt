@@ -19,6 +19,7 @@ use Rattle.law_steady_reads.proofs.FinalTimes.{reads_final}
 use Rattle.law_steady_reads.proofs.Steady.{reads_steady}
 use Rattle.law_right_reads.proofs.Right.{reads_right}
 use Rattle.law_fresh_reads.proofs.Fresh.{reads_fresh}
+use Rattle.law_causes.proofs.Runs.{causes as all_caused}
 use Rattle.law_promises.specs.Laws.{RunsKeepPromises}
 
 -- a write of a committed transaction took its time below the commit
@@ -41,4 +42,5 @@ promises_kept config h run agree = record {
   };
   commits_differ = λ x y x_in y_in other related same. commits_differ config h x y run agree x_in y_in other related same;
   writers_apart = λ x y x_in y_in other related. related_apart config h x y run agree x_in y_in other related;
+  causes = λ t member. all_caused config h t run member;
 }

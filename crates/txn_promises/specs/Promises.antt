@@ -1,5 +1,5 @@
--- What the finished reads and the committed transactions of a run are promised, in one record over a cluster and its history.
--- Why a command may be refused is said by `Cause`, what is left at the end by `Settled`.
+-- What the finished reads, the committed transactions and the refusals of a run are promised, in one record over a cluster and
+-- its history. What is left at the end is said by `Settled`.
 use Rattle.std.specs.Prelude.{◌≡◌, ℕ, ◌<◌, true, Some}
 use Rattle.txn_data.specs.declared.config.Config.{Config}
 use Rattle.txn_data.specs.declared.committed_txn.CommittedTxn.{CommittedTxn}
@@ -10,6 +10,7 @@ use Rattle.txn_data.specs.declared.entry.Entry.{Entry}
 use Rattle.txn_types.specs.Lists.{Member}
 use Rattle.txn_types.specs.History.{History}
 use Rattle.txn_types.specs.Committed.{committed, committed_snapshots}
+use Rattle.txn_types.specs.Cause.{ToldAt, tells, Cause}
 use Rattle.txn_types.specs.Reads.{Read, reads, read_time, IsFinal, Right, SkewHeld, Fresh, Steady, related_writes, Apart}
 
 -- A finished read was told its final time. It shows what the fold of all commits up to that time leaves on the paths asked,
@@ -46,3 +47,4 @@ pub record Promises (config : Config) (h : History) : Type 0 where
   pub commits_keep : (x : CommittedTxn) → Member x (committed_snapshots h) → CommitKeeps config h x
   pub commits_differ : (x y : CommittedTxn) → CommitsDiffer h x y
   pub writers_apart : (x y : CommittedTxn) → WritersDoNotOverlap config h x y
+  pub causes : (t : ToldAt) → Member t (tells h) → Cause config t

@@ -1,0 +1,5 @@
+pub mod Tables
+pub mod Overlaps
+pub mod Aborts
+pub mod Since
+pub mod Runs
