@@ -4,4 +4,5 @@ pub mod Decides
 pub mod Acts
 pub mod Loads
 pub mod Times
+pub mod Replies
 pub mod Laws

@@ -13,8 +13,10 @@ mod decision;
 mod in_range;
 mod laws;
 mod leased_log;
+mod replies;
 
 pub use action::Action;
 pub use decision::{Decision, refusal_of};
 pub use laws::{the_same_log_stands, times_are_leased, times_rise};
 pub use leased_log::LeasedLog;
+pub use replies::{log_fault, out_of_memory, restarted};

@@ -1,7 +1,7 @@
 //! The words of a command line: which job they ask for.
 //!
 //! `clap` takes the words apart, and this crate reads the texts that it found. The contract is exact: `read_words`
-//! gives the job of `job_of`, or `Usage` where there is none, and only want of memory may come in place of these.
+//! gives the job of `job_of`, or `Usage` where there is none, and only out of memory may come in place of these.
 #![tactic(auto)]
 
 mod command;

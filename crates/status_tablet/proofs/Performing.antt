@@ -26,6 +26,7 @@ use Rattle.safe_time.specs.ActorClock.{ClockState}
 use Rattle.log_record.specs.declared.log_record.LogRecord.{LogRecord}
 use Rattle.tablet_log.specs.Entries.{logged_records}
 use Rattle.tablet_log.specs.Replay.{record_after, record_in}
+use Rattle.leased_log.specs.Replies.{out_of_memory}
 use Rattle.leased_log.specs.Stands as log
 use Rattle.leased_log.specs.Stands.{LogState, IsSame, StandsStill}
 use Rattle.leased_log.specs.Decides.{time_of, lease_of, lease_records, records_for, IsTold, Decides, Done, entry}
@@ -38,7 +39,7 @@ use Rattle.status_tablet.specs.declared.txn_record.TxnRecord.{TxnRecord}
 use Rattle.status_tablet.specs.declared.status_decision.StatusDecision.{StatusDecision}
 use Rattle.status_tablet.specs.Keeps.{kept_at, kept_of, kept_with, marked}
 use Rattle.status_tablet.specs.Stands.{StatusState, Stands}
-use Rattle.status_tablet.specs.Decisions.{event_of, record_with, StaysItself, ServesBy, Says, IsDone, IsUndone, out_of_memory}
+use Rattle.status_tablet.specs.Decisions.{event_of, record_with, StaysItself, ServesBy, Says, IsDone, IsUndone}
 use Rattle.status_tablet.specs.Restarts.{IfRestarted}
 
 -- what the laws of the crates below say

@@ -13,6 +13,7 @@ use Rattle.log_record.specs.declared.log_record.LogRecord.{LogRecord}
 use Rattle.log_record.specs.declared.log_record.LogRecord.TheVariants as log_record
 use Rattle.tablet_log.specs.Frames.{Holds, frames}
 use Rattle.tablet_log.specs.Replay.{record_after, record_in, lease_in}
+use Rattle.leased_log.specs.Replies.{restarted_with, not_loaded}
 use Rattle.leased_log.specs.Stands as log
 use Rattle.leased_log.specs.Stands.{LogState, IsSame, all_records}
 use Rattle.leased_log.specs.Loads.{failed_load, NotLoaded, restart, HoldsPiece, IsRestarted}
@@ -22,7 +23,7 @@ use Rattle.status_tablet.specs.declared.txn_record.TxnRecord.TheVariants as kept
 use Rattle.status_tablet.specs.Keeps.{kept_of, kept_after, names_none}
 use Rattle.status_tablet.specs.Stands.{StatusState, Stands}
 use Rattle.status_tablet.specs.Decisions.{StaysItself}
-use Rattle.status_tablet.specs.Restarts.{IsRebuilt, StartsAgain, StaysUnloaded, restarted_with, not_loaded}
+use Rattle.status_tablet.specs.Restarts.{IsRebuilt, StartsAgain, StaysUnloaded}
 use Rattle.status_tablet.proofs.Table.{waiting_all}
 use Rattle.status_tablet.proofs.Performing.{Replayed, Still}
 

@@ -23,6 +23,7 @@ use Rattle.log_record.specs.Spelling.{has_spelling}
 use Rattle.tablet_log.specs.Frames.{IsRecord}
 use Rattle.tablet_log.specs.Replay.{record_after}
 use Rattle.leased_log.specs.declared.decision.Decision.{Decision}
+use Rattle.leased_log.specs.Replies.{out_of_memory}
 use Rattle.leased_log.specs.Stands.{LogState, IsSame}
 use Rattle.leased_log.specs.Acts.{HoldsAfter, SameCounts, Acts}
 use Rattle.leased_log.specs.Decides.{time_of, records_for, logs, IsPlain, IsTold, Decides, Does}
@@ -92,10 +93,6 @@ pub record IsUndone (old new : StatusState) : Type 0 where
   pub same : IsSame old.log new.log
   pub status : new.status ≡ old.status
   pub records : (x : ℕ) → kept_at new.records x ≡ kept_at old.records x
-
--- out of memory, as it is told
-abbrev pub out_of_memory : Served
-out_of_memory = record { reply = reply.Refused refusal.Memory; copy = reply.Refused refusal.Memory; time = None; append = Nothing }
 
 -- what each of its calls promises: the status tablet serves this request by its table, and stands for its entries with this
 -- one more; it tells a fault of the log only where its store counted one, out of memory only where nothing changed, and of a

@@ -2,11 +2,8 @@
 use Rattle.std.specs.Prelude.{◌≡◌, ℕ, ◌↔◌, Bool, true, false, List, [], None}
 use Rattle.std.specs.List.{fold}
 use Rattle.docdb_outside.specs.Count.{Rose}
-use Rattle.txn_data.specs.declared.append.Append.TheVariants.{Nothing}
 use Rattle.txn_data.specs.declared.reply.Reply.{Reply}
 use Rattle.txn_data.specs.declared.reply.Reply.TheVariants as reply
-use Rattle.txn_data.specs.declared.refusal.Refusal.TheVariants as refusal
-use Rattle.txn_data.specs.declared.served.Served.{Served}
 use Rattle.log_record.specs.declared.log_record.LogRecord.{LogRecord}
 use Rattle.txn_types.specs.History.{History}
 use Rattle.safe_time.specs.ActorClock.{restarted}
@@ -51,9 +48,3 @@ pub record StaysUnloaded (old new : StatusState) : Type 0 where
   pub fails : FailsToLoad old.log new.log
   pub stays : StaysDown old.log new.log
   pub status : new.status ≡ old.status
-
-abbrev pub restarted_with : Bool → Served
-restarted_with kept = record { reply = reply.Restarted kept; copy = reply.Restarted kept; time = None; append = Nothing }
-
-abbrev pub not_loaded : Served
-not_loaded = record { reply = reply.Refused refusal.LogFault; copy = reply.Refused refusal.LogFault; time = None; append = Nothing }

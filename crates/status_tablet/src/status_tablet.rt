@@ -4,19 +4,19 @@ ghost use Rattle.txn_data.specs.declared.request.Request.TheVariants as request;
 ghost use Rattle.safe_time.specs.ActorClock.{at_first};
 ghost use Rattle.leased_log.specs.Acts.{SameCounts};
 ghost use Rattle.status_tablet.specs.Stands.{Stands};
-ghost use Rattle.status_tablet.specs.Decisions.{StaysItself, ServesBy, Performs, CarriesOut, IsDone, IsUndone, is_spelled, out_of_memory};
-ghost use Rattle.status_tablet.specs.Restarts.{IfRestarted, IsRebuilt, StartsAgain, StaysUnloaded, restarted_with, not_loaded};
+ghost use Rattle.status_tablet.specs.Decisions.{StaysItself, ServesBy, Performs, CarriesOut, IsDone, IsUndone, is_spelled};
+ghost use Rattle.status_tablet.specs.Restarts.{IfRestarted, IsRebuilt, StartsAgain, StaysUnloaded};
 
 use crate::status_decision::StatusDecision;
 use crate::txn_records::TxnRecords;
 use docdb_base::Memory;
 use docdb_outside::{LoadFault, LogStore};
 use hybrid_time::HybridTime;
-use leased_log::{LeasedLog, the_same_log_stands};
+use leased_log::{LeasedLog, log_fault, out_of_memory, restarted, the_same_log_stands};
 use std::alloc::Global;
 use std::marker::Model;
 use tablet_log::{a_serve_is_logged, a_status_tablet_is_replayed};
-use txn_types::{Actor, Append, Isolation, Refusal, Reply, Served, Tablets, TxnId};
+use txn_types::{Actor, Isolation, Served, Tablets, TxnId};
 
 /// A status tablet over a log store.
 #[derive(Drop)]
@@ -119,7 +119,7 @@ impl<L: LogStore> StatusTablet<L> {
     {
         match self.decide_commit(txn, floor, tablets, reading) {
             Ok(decided) => self.perform(decided),
-            Err(_) => want_of_memory(),
+            Err(_) => out_of_memory(),
         }
     }
 
@@ -155,7 +155,7 @@ impl<L: LogStore> StatusTablet<L> {
         match self.try_to_restart() {
             Ok(kept) => restarted(kept),
             Err(LoadFault::Failed) => log_fault(),
-            Err(LoadFault::Memory) => want_of_memory(),
+            Err(LoadFault::Memory) => out_of_memory(),
         }
     }
 
@@ -202,7 +202,7 @@ impl<L: LogStore> StatusTablet<L> {
         a_status_tablet_is_replayed();
         match self.try_to_carry_out(decided) {
             Ok(served) => served,
-            Err(_) => want_of_memory(),
+            Err(_) => out_of_memory(),
         }
     }
 
@@ -217,41 +217,5 @@ impl<L: LogStore> StatusTablet<L> {
         let action = self.log.ready(decision)?;
         self.records.take_in(action.own(), mark)?;
         Ok(self.log.act(action))
-    }
-}
-
-/// The reply of out of memory.
-fn want_of_memory() -> Served
-    ensures { result ≡ out_of_memory }
-{
-    Served {
-        reply: Reply::Refused(Refusal::Memory),
-        copy: Reply::Refused(Refusal::Memory),
-        time: None,
-        append: Append::Nothing,
-    }
-}
-
-/// The reply of a restart.
-fn restarted(kept: bool) -> Served
-    ensures { result ≡ restarted_with kept }
-{
-    Served {
-        reply: Reply::Restarted { kept },
-        copy: Reply::Restarted { kept },
-        time: None,
-        append: Append::Nothing,
-    }
-}
-
-/// The reply of a load that failed.
-fn log_fault() -> Served
-    ensures { result ≡ not_loaded }
-{
-    Served {
-        reply: Reply::Refused(Refusal::LogFault),
-        copy: Reply::Refused(Refusal::LogFault),
-        time: None,
-        append: Append::Nothing,
     }
 }

@@ -26,6 +26,7 @@ use Rattle.safe_time.specs.ActorClock.{ClockState}
 use Rattle.log_record.specs.declared.log_record.LogRecord.{LogRecord}
 use Rattle.tablet_log.specs.Entries.{logged_records}
 use Rattle.tablet_log.specs.Replay.{TabletState, tablet_after, tablet_at_first, tablet_of}
+use Rattle.leased_log.specs.Replies.{out_of_memory}
 use Rattle.leased_log.specs.Stands as log
 use Rattle.leased_log.specs.Stands.{LogState, IsSame, StandsStill}
 use Rattle.leased_log.specs.Decides.{lease_of, lease_records, records_for, IsTold, Decides, Done, entry}
@@ -37,7 +38,7 @@ use Rattle.leased_log.proofs.Advancing.{IsServed, served_by, advances_by}
 use Rattle.tablet_records.specs.declared.tablet_records.TabletRecords.{TabletRecords}
 use Rattle.tablet_records.specs.Keeps.{Keeps}
 use Rattle.tablet_core.specs.Stands.{CoreState, Stands}
-use Rattle.tablet_core.specs.Decisions.{Says, StaysItself, IsUndone, IfRestarted, ServesBy, intents_with, versions_with, IsDone, out_of_memory}
+use Rattle.tablet_core.specs.Decisions.{Says, StaysItself, IsUndone, IfRestarted, ServesBy, intents_with, versions_with, IsDone}
 
 -- what the laws of the crates below say
 abbrev pub Replayed : Type 0

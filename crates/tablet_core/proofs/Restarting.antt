@@ -9,14 +9,15 @@ use Rattle.txn_types.specs.Clock.{down_since}
 use Rattle.safe_time.specs.ActorClock.{ClockState, restarted}
 use Rattle.tablet_log.specs.Frames.{Holds, frames}
 use Rattle.tablet_log.specs.Replay.{TabletState, tablet_of, lease_in}
+use Rattle.leased_log.specs.Replies.{out_of_memory, restarted_with, not_loaded}
 use Rattle.leased_log.specs.Stands as log
 use Rattle.leased_log.specs.Stands.{LogState, IsSame, all_records}
 use Rattle.leased_log.specs.Loads.{failed_load, NotLoaded, restart, HoldsPiece, IsRestarted}
 use Rattle.leased_log.proofs.Parts.{none_of_or}
 use Rattle.tablet_records.specs.Keeps.{Keeps}
 use Rattle.tablet_core.specs.Stands.{CoreState, Stands}
-use Rattle.tablet_core.specs.Decisions.{StaysItself, IsUndone, ServesBy, out_of_memory}
-use Rattle.tablet_core.specs.Restarts.{IsRebuilt, StartsAgain, StaysUnloaded, restarted_with, not_loaded}
+use Rattle.tablet_core.specs.Decisions.{StaysItself, IsUndone, ServesBy}
+use Rattle.tablet_core.specs.Restarts.{IsRebuilt, StartsAgain, StaysUnloaded}
 use Rattle.tablet_core.proofs.Performing.{Replayed, Still, undone_stands}
 
 -- the log that was loaded holds a piece exactly where it held one before

@@ -22,6 +22,7 @@ use Rattle.log_record.specs.Spelling.{has_spelling}
 use Rattle.tablet_log.specs.Frames.{IsRecord}
 use Rattle.tablet_log.specs.Replay.{intents_after, versions_after}
 use Rattle.leased_log.specs.declared.decision.Decision.{Decision}
+use Rattle.leased_log.specs.Replies.{out_of_memory}
 use Rattle.leased_log.specs.Stands.{LogState, IsSame}
 use Rattle.leased_log.specs.Acts.{HoldsAfter, SameCounts, Acts}
 use Rattle.leased_log.specs.Decides.{records_for, IsPlain, IsTold, Decides, Does}
@@ -65,17 +66,13 @@ pub record IsUndone {V : Type 0} (holds : V → List Version → Type 0) (old ne
   pub tablet : new.tablet ≡ old.tablet
   pub records : (ps : List Intent) (vs : List Version) → Keeps holds old.records ps vs → Keeps holds new.records ps vs
 
--- what is told if memory runs out
-abbrev pub out_of_memory : Served
-out_of_memory = record { reply = reply.Refused refusal.Memory; copy = reply.Refused refusal.Memory; time = None; append = Nothing }
-
 -- where the reply tells of a restart
 abbrev pub IfRestarted : Reply → (Bool → Type 0) → Type 0
 IfRestarted (reply.Restarted kept) P = P kept
 IfRestarted r P = Unit {0}
 
 -- what each call promises: the tablet serves this request by its table, and stands for its entries with this one more; it
--- tells a fault of the log only where its store counted one, of lack of memory only where nothing changed, and of a restart only
+-- tells a fault of the log only where its store counted one, of out of memory only where nothing changed, and of a restart only
 -- where it was asked for one. Any other request makes no load, and counts no fault where it appends nothing.
 pub record ServesBy {V : Type 0} (holds : V → List Version → Type 0) (old new : CoreState V) (from : Actor) (reading : Option ℕ) (asked : Request) (s : Served) : Type 0 where
   pub advances : Advances (Stands holds old) (Stands holds new) old.log.clock.lease (Tablet old.tablet) from reading asked s.reply s

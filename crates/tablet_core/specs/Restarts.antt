@@ -1,10 +1,6 @@
 -- What a restart of a tablet comes to.
 use Rattle.std.specs.Prelude.{◌≡◌, ◌↔◌, ℕ, Bool, true, List, None}
 use Rattle.docdb_outside.specs.Count.{Rose}
-use Rattle.txn_data.specs.declared.append.Append.TheVariants.{Nothing}
-use Rattle.txn_data.specs.declared.reply.Reply.TheVariants as reply
-use Rattle.txn_data.specs.declared.refusal.Refusal.TheVariants as refusal
-use Rattle.txn_data.specs.declared.served.Served.{Served}
 use Rattle.txn_data.specs.declared.version.Version.{Version}
 use Rattle.log_record.specs.declared.log_record.LogRecord.{LogRecord}
 use Rattle.tablet_log.specs.Frames.{Holds}
@@ -45,9 +41,3 @@ pub record StaysUnloaded {V : Type 0} (old new : CoreState V) : Type 0 where
   pub fails : FailsToLoad old.log new.log
   pub stays : StaysDown old.log new.log
   pub tablet : new.tablet ≡ old.tablet
-
-abbrev pub restarted_with : Bool → Served
-restarted_with kept = record { reply = reply.Restarted kept; copy = reply.Restarted kept; time = None; append = Nothing }
-
-abbrev pub not_loaded : Served
-not_loaded = record { reply = reply.Refused refusal.LogFault; copy = reply.Refused refusal.LogFault; time = None; append = Nothing }

@@ -10,7 +10,6 @@
 mod decisions;
 mod laws;
 mod machine;
-mod replies;
 mod tablet_core;
 mod undecided;
 

@@ -12,13 +12,12 @@ ghost use Rattle.tablet_records.specs.Keeps.{Keeps, PathFits};
 ghost use Rattle.tablet_core.specs.Decisions.{CarriesOut, IfRestarted, IsDone, IsLoggable, IsUndecided, IsUndone, Performs, ServesBy, StaysItself, intents_with, versions_with};
 ghost use Rattle.tablet_core.specs.Restarts.{IsRebuilt, StartsAgain, StaysUnloaded};
 
-use crate::replies::{log_fault, out_of_memory, restarted};
 use crate::undecided::Undecided;
 use doc_path::Path;
 use docdb_base::Memory;
 use docdb_outside::{LoadFault, LogStore};
 use hybrid_time::HybridTime;
-use leased_log::{Decision, LeasedLog, the_same_log_stands};
+use leased_log::{Decision, LeasedLog, log_fault, out_of_memory, restarted, the_same_log_stands};
 use log_record::LogRecord;
 use regular_records::Versions;
 use std::alloc::Global;

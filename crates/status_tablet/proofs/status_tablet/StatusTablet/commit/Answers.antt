@@ -8,7 +8,7 @@ returns-in-Ok-clause-serves g c =
     c.perform.ensures.performs c.args._from (Some c.args.reading) (request.Commit c.args.txn c.args.floor c.args.tablets.now) (tt, tt, tt) c.in-Ok.ensures.says
 
 pub returns-in-Err-clause-serves : goal.returns-in-Err-clause-serves
-returns-in-Err-clause-serves g c = rw c.want_of_memory.ensures (record {
+returns-in-Err-clause-serves g c = rw c.out_of_memory.ensures (record {
   advances = λ bytes faults h st. st;
   fault = λ is. cc;
   memory = λ is. (refl, nothing_done c.args.self.now);
@@ -18,4 +18,4 @@ returns-in-Err-clause-serves g c = rw c.want_of_memory.ensures (record {
 })
 
 pub returns-in-Err-clause-stays : goal.returns-in-Err-clause-stays
-returns-in-Err-clause-stays g c = rw c.want_of_memory.ensures (stays_undone c.args.self.now c.args.self.now (nothing_done c.args.self.now))
+returns-in-Err-clause-stays g c = rw c.out_of_memory.ensures (stays_undone c.args.self.now c.args.self.now (nothing_done c.args.self.now))

@@ -33,7 +33,7 @@ pub returns-in-Err-Failed-clause-stays : goal.returns-in-Err-Failed-clause-stays
 returns-in-Err-Failed-clause-stays g c = rw c.log_fault.ensures (fault_stays c.args.self.now c.try_to_restart.new.self (c.in-Err-Failed.ensures.failed (ap Err c.in-Err-Failed.field-0-is)))
 
 pub returns-in-Err-Memory-clause-serves : goal.returns-in-Err-Memory-clause-serves
-returns-in-Err-Memory-clause-serves g c = rw c.want_of_memory.ensures (record {
+returns-in-Err-Memory-clause-serves g c = rw c.out_of_memory.ensures (record {
   advances = undone c.the_same_log_stands.ensures c.args.self.now c.try_to_restart.new.self (c.in-Err-Memory.ensures.memory (ap Err c.in-Err-Memory.field-0-is));
   fault = λ is. cc;
   memory = λ is. (refl, c.in-Err-Memory.ensures.memory (ap Err c.in-Err-Memory.field-0-is));
@@ -43,4 +43,4 @@ returns-in-Err-Memory-clause-serves g c = rw c.want_of_memory.ensures (record {
 })
 
 pub returns-in-Err-Memory-clause-stays : goal.returns-in-Err-Memory-clause-stays
-returns-in-Err-Memory-clause-stays g c = rw c.want_of_memory.ensures (stays_undone c.args.self.now c.try_to_restart.new.self (c.in-Err-Memory.ensures.memory (ap Err c.in-Err-Memory.field-0-is)))
+returns-in-Err-Memory-clause-stays g c = rw c.out_of_memory.ensures (stays_undone c.args.self.now c.try_to_restart.new.self (c.in-Err-Memory.ensures.memory (ap Err c.in-Err-Memory.field-0-is)))

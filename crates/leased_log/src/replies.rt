@@ -1,12 +1,11 @@
-//! Replies that the table does not decide.
+//! What an actor tells that its table does not decide.
 ghost use Rattle.std.specs.Prelude.{◌≡◌};
-ghost use Rattle.tablet_core.specs.Decisions.{out_of_memory};
-ghost use Rattle.tablet_core.specs.Restarts.{restarted_with, not_loaded};
+ghost use Rattle.leased_log.specs.Replies.{out_of_memory, restarted_with, not_loaded};
 
 use txn_types::{Append, Refusal, Reply, Served};
 
 /// The reply if memory runs out.
-pub(crate) fn out_of_memory() -> Served
+pub fn out_of_memory() -> Served
     ensures { result ≡ out_of_memory }
 {
     Served {
@@ -18,7 +17,7 @@ pub(crate) fn out_of_memory() -> Served
 }
 
 /// The reply of a restart.
-pub(crate) fn restarted(kept: bool) -> Served
+pub fn restarted(kept: bool) -> Served
     ensures { result ≡ restarted_with kept }
 {
     Served {
@@ -30,7 +29,7 @@ pub(crate) fn restarted(kept: bool) -> Served
 }
 
 /// The reply of a load that failed.
-pub(crate) fn log_fault() -> Served
+pub fn log_fault() -> Served
     ensures { result ≡ not_loaded }
 {
     Served {
