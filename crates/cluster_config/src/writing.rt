@@ -5,6 +5,7 @@ ghost use Rattle.toml.specs.Data.{array, integer};
 ghost use Rattle.toml.specs.View.{table_view, view};
 ghost use Rattle.cluster_config.specs.Head.{IsSpelled, head_of, largest};
 ghost use Rattle.cluster_config.specs.Table.{integers, put, schedule_text, table_of};
+ghost use Rattle.cluster_config.specs.Written.{head_text};
 
 use docdb_base::Memory;
 use std::alloc::{AllocError, Global};
@@ -72,7 +73,8 @@ fn table_of(alloc: Global, config: &Config) -> Result<Table, Memory>
 /// The head of a configuration: a text that is read as this configuration.
 pub fn write_head(alloc: Global, config: &Config) -> Result<String, Memory>
     requires { IsSpelled config.now }
-    ensures { IfOk result (λ text. head_of (string_bytes text) ≡ Ok config.now) }
+    ensures text { IfOk result (λ text. string_bytes text ≡ head_text config.now) }
+    ensures read { IfOk result (λ text. head_of (string_bytes text) ≡ Ok config.now) }
 {
     let table = table_of(alloc, config)?;
     match toml::table_to_string(alloc, &table) {
