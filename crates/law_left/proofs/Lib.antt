@@ -1,0 +1,10 @@
+pub mod Rests
+pub mod Since
+pub mod Fates
+pub mod Cleared
+pub mod Numbers
+pub mod Intents
+pub mod Goes
+pub mod Passes
+pub mod Settles
+pub mod Plans
