@@ -1,0 +1,4 @@
+pub mod Late
+pub mod Starts
+pub mod Asked
+pub mod Runs

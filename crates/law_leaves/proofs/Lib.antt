@@ -1,0 +1,10 @@
+pub mod Keeps
+pub mod Limits
+pub mod Data
+pub mod Ids
+pub mod Asks
+pub mod Closed
+pub mod Flights
+pub mod Closing
+pub mod Restarts
+pub mod Runs

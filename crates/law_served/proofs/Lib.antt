@@ -1,0 +1,3 @@
+pub mod Above
+pub mod Tellings
+pub mod Runs
