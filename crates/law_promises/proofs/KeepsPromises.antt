@@ -20,6 +20,10 @@ use Rattle.law_steady_reads.proofs.Steady.{reads_steady}
 use Rattle.law_right_reads.proofs.Right.{reads_right}
 use Rattle.law_fresh_reads.proofs.Fresh.{reads_fresh}
 use Rattle.law_causes.proofs.Runs.{causes as all_caused}
+use Rattle.law_answers.proofs.Runs.{each_answered}
+use Rattle.law_endings.proofs.Runs.{ended_never_commits}
+use Rattle.law_left.proofs.Plans.{last_settle}
+use Rattle.law_leaves.proofs.Runs.{leaves as all_left, decide}
 use Rattle.law_promises.specs.Laws.{RunsKeepPromises}
 
 -- a write of a committed transaction took its time below the commit
@@ -43,4 +47,9 @@ promises_kept config h run agree = record {
   commits_differ = λ x y x_in y_in other related same. commits_differ config h x y run agree x_in y_in other related same;
   writers_apart = λ x y x_in y_in other related. related_apart config h x y run agree x_in y_in other related;
   causes = λ t member. all_caused config h t run member;
+  answers = λ t member. each_answered config h t run member;
+  leaves = λ t member. all_left config h t run member;
+  decides = λ t member. decide config h t run member;
+  ended = λ t member x is y y_in same. (ended_never_commits config h t x run member is).1 y y_in same;
+  left = λ k at_rest since. last_settle config h k run at_rest since;
 }

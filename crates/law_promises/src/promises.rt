@@ -32,7 +32,8 @@ pub fn writers_are_apart()
     ensures { RelatedAreApart }
 {}
 
-/// Every run in which places with equal first parts name one tablet keeps all of this: reads, writers and commit times.
+/// Every run in which places with equal first parts name one tablet keeps all of this: what is promised of reads, writers,
+/// commit times, answers and refusals.
 pub fn runs_keep_promises()
     ensures { RunsKeepPromises }
 {}

@@ -1,2 +1,6 @@
-pub mod Promises
 pub mod Answers
+pub mod Left
+pub mod Ends
+pub mod Leaves
+pub mod Refuses
+pub mod Promises
