@@ -5,6 +5,9 @@ pub mod Allowed
 pub mod Entries
 pub mod Branches
 pub mod Wrong
+pub mod Endings
+pub mod Refused
+pub mod WrongRefusals
 pub mod Shows
 pub mod Needed
 pub mod Plan

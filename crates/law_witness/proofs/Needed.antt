@@ -13,8 +13,8 @@ use Rattle.txn_types.specs.Reads.{known, read_time, Apart}
 use Rattle.worked_cases.specs.Simulated.{no_fault, by_turns}
 use Rattle.worked_cases.proofs.Tables.{tables}
 use Rattle.law_witness.specs.Witness.{small, val, place}
-use Rattle.law_witness.specs.Scripts.{run_of, read_beside, question_first, beyond_skew, beyond_skew_script, two_tablets, two_homes_script, other_val, row, within_skew, read_elsewhere, singles_at_two, writers_at_two, single_after, unrelated_singles, unrelated_writers, misplaced}
-use Rattle.law_witness.specs.Needed.{NotFreshBeyondSkew, MissesLaterCommit, NotRightAtTwo, NotFreshAtTwo, SameTimeAtTwo, OverlapAtTwo, SingleNotApart, SameTimeUnrelated, OverlapUnrelated}
+use Rattle.law_witness.specs.Scripts.{run_of, read_beside, question_first, beyond_skew, beyond_skew_script, two_tablets, two_homes_script, other_val, row, within_skew, read_elsewhere, read_unrelated, singles_at_two, writers_at_two, single_after, unrelated_singles, unrelated_writers, misplaced}
+use Rattle.law_witness.specs.Needed.{NotFreshBeyondSkew, MissesLaterCommit, MissesUnrelatedCommit, NotRightAtTwo, NotFreshAtTwo, SameTimeAtTwo, OverlapAtTwo, SingleNotApart, SameTimeUnrelated, OverlapUnrelated}
 use Rattle.law_witness.proofs.Simulated.{done_is_run, turns_are_run}
 use Rattle.law_witness.proofs.Tests.{by_byte, one_home, two_homes, read_at, is_read, commit_at, is_commit, is_no_commit, skew_held, skew_broken}
 
@@ -184,5 +184,23 @@ misses_later_commit =
       related = refl;
       told = refl;
       not_before = refl;
+      missed = omega arith;
+    }
+
+pub misses_unrelated_commit : MissesUnrelatedCommit within_skew (run_of within_skew read_unrelated)
+unfolding tables
+misses_unrelated_commit =
+    let h = run_of within_skew read_unrelated in
+    let all = committed h in
+    record {
+      run = done_is_run within_skew no_fault read_unrelated refl refl;
+      places = one_home by_byte h refl;
+      read = read_at 0 h;
+      finished = is_read 0 h refl;
+      skew = skew_held within_skew (read_at 0 h) refl;
+      txn = commit_at 0 all;
+      committed_txn = is_commit 0 all refl;
+      told_before = refl;
+      unrelated = refl;
       missed = omega arith;
     }

@@ -68,17 +68,17 @@ skew_broken config read is held =
     cc
 
 -- what stands at a position in a list, and that it is one of the list
-abbrev nth : {A : Type 0} → A → ℕ → List A → A
+abbrev pub nth : {A : Type 0} → A → ℕ → List A → A
 nth d n [] = d
 nth d zero (x ∷ xs) = x
 nth d (suc n) (x ∷ xs) = nth d n xs
 
-abbrev is_at : {A : Type 0} → ℕ → List A → Bool
+abbrev pub is_at : {A : Type 0} → ℕ → List A → Bool
 is_at n [] = false
 is_at zero (x ∷ xs) = true
 is_at (suc n) (x ∷ xs) = is_at n xs
 
-nth_member : {A : Type 0} (d : A) (n : ℕ) (xs : List A) → is_at n xs ≡ true → Member (nth d n xs) xs
+pub nth_member : {A : Type 0} (d : A) (n : ℕ) (xs : List A) → is_at n xs ≡ true → Member (nth d n xs) xs
 nth_member d n [] is = cc
 nth_member d zero (x ∷ xs) is = inl refl
 nth_member d (suc n) (x ∷ xs) is = inr (nth_member d n xs is)

@@ -25,7 +25,7 @@ abbrev time_in : Event → Option ℕ
 time_in (Serve from asked r time append) = time
 time_in event = None
 
-abbrev reply_in : Event → Reply
+abbrev pub reply_in : Event → Reply
 reply_in (Serve from asked r time append) = r
 reply_in event = reply.Begun
 

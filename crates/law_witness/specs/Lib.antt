@@ -4,3 +4,6 @@ pub mod Shows
 pub mod Needed
 pub mod Branches
 pub mod Wrong
+pub mod Endings
+pub mod Refused
+pub mod WrongRefusals

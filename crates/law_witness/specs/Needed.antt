@@ -40,6 +40,22 @@ pub record MissesLaterCommit (config : Config) (h : History) : Type 0 where
   pub not_before : was_told (origin config read) txn.txn ≡ false
   pub missed : final_time config read < txn.at
 
+-- ## without a related commit
+
+-- places agree, clocks agreed within the skew before a finished read, and a commit that was told before it began is later than
+-- its final time: it is not related to the read
+pub record MissesUnrelatedCommit (config : Config) (h : History) : Type 0 where
+  pub run : Run config h
+  pub places : PlacesAgree h
+  pub read : Read
+  pub finished : Member read (reads h)
+  pub skew : SkewHeld config config.skew_us read
+  pub txn : CommittedTxn
+  pub committed_txn : Member txn (committed h)
+  pub told_before : was_told (origin config read) txn.txn ≡ true
+  pub unrelated : touches (paths_asked config read) txn ≡ false
+  pub missed : final_time config read < txn.at
+
 -- ## without places that agree
 
 -- clocks agreed within the skew before a finished read, and it is not right

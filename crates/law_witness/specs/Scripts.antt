@@ -82,6 +82,10 @@ within_skew = record (two_nodes 1400000) { tablets = 2 }
 abbrev pub read_elsewhere : Script
 read_elsewhere = (first, command.SinglePut misplaced val 0) ∷ (second, command.Read false (place ∷ [])) ∷ []
 
+-- another document is written there
+abbrev pub read_unrelated : Script
+read_unrelated = (first, command.SinglePut far val 0) ∷ (second, command.Read false (place ∷ [])) ∷ []
+
 -- it is written at two tablets, singly and in transactions
 abbrev pub singles_at_two : Script
 singles_at_two = write_singly place misplaced
