@@ -1,0 +1,6 @@
+pub mod Readings
+pub mod Tracking
+pub mod Judging
+pub mod Walking
+pub mod Agreeing
+pub mod Placing

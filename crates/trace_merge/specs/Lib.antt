@@ -1,0 +1,4 @@
+pub mod Clocks
+pub mod Seen
+pub mod Tracks
+pub mod Walked
