@@ -133,6 +133,7 @@ impl SessionCore {
         requires { wants_reading self.old ≡ true }
         ensures turn { (config : Config) → IsOf config self.old → Answered config (session_of self.old) (mover config self.old) (Some reading) (mover config self.new) result }
         ensures stands { StandsAfter self.new result }
+        ensures asks { IfOk result (λ next. is_wanting next ≡ false) }
         ensures named { IsNamed self.old self.new }
         ensures commands { commands_of self.new ≡ commands_of self.old }
         ensures node { node_of self.new ≡ node_of self.old }

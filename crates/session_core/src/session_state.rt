@@ -94,7 +94,7 @@ impl SessionState {
         }
     }
 
-    /// This command was lost at its start, for lack of memory.
+    /// This command was lost at its start, since memory ran out.
     pub(crate) fn lose(&mut self, line: &Command)
         requires { self.old.serial < 2 ^ 63 }
         ensures keeps { (config : Config) → keeps self.new ≡ keeps_after config self.old.session (keeps self.old) line.now None (limits_of (keeps self.old).opened) (Told.Refused ToldRefusal.Memory) }

@@ -1,0 +1,6 @@
+pub mod Own
+pub mod Turns
+pub mod Taken
+pub mod Sessions
+pub mod Passes
+pub mod OwnEvents

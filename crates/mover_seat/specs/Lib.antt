@@ -1,0 +1,9 @@
+pub mod Stage
+pub mod Made
+pub mod Step
+pub mod Lines
+pub mod NextEvent
+pub mod Session
+pub mod Pass
+pub mod Applier
+pub mod Laws
