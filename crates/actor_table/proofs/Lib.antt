@@ -1,0 +1,9 @@
+pub mod Histories
+pub mod Goings
+pub mod Dealing
+pub mod Acting
+pub mod Messages
+pub mod Gathering
+pub mod Counting
+pub mod Closing
+pub mod Sharing
