@@ -31,145 +31,146 @@ use Rattle.txn_types.specs.Program.{Program, refusal_told}
 use Rattle.txn_types.specs.ReadProgram.{read_program}
 use Rattle.txn_types.specs.TxnProgram.{refused, write_refused, resolve_all, find_others, txn_program}
 use Rattle.txn_types.specs.PassProgram.{Counts, pass_over, pass_program}
-use Rattle.txn_types.specs.Session.{Keeps, Opened, next_meta, timed_then, begin_program, read_at, read_inside, read_told, writes_of, has_writes, read_command, write_command, commit_command, abort_command, if_closed, restart_program, command_program}
-use Rattle.txn_types.specs.Run.{program_of}
+use Rattle.txn_types.specs.Session.{Keeps, Opened, txn_id, next_meta, timed_then, begin_program, read_at, read_inside, read_told, writes_of, has_writes, read_command, write_command, commit_command, abort_command, if_closed, restart_program, command_program}
+use Rattle.txn_types.specs.Run.{program_of, session_of}
+use Rattle.txn_types.specs.Reads.{open_txn}
 use Rattle.law_told_commits.proofs.Says.{Says, then_says}
-use Rattle.txn_promises.specs.Answers.{IsAnswerTo}
+use Rattle.txn_promises.specs.Answers.{txn_of_line, IsAnswerTo}
 
 -- a refusal, or an answer that the line may have
-abbrev pub Fits : Command → Told → Type 0
-Fits line (told.Refused why) = Unit {0}
-Fits line t = IsAnswerTo line t
+abbrev pub Fits : Option ℕ → Command → Told → Type 0
+Fits own line (told.Refused why) = Unit {0}
+Fits own line t = IsAnswerTo own line t
 
 -- ## programs whose every refusal is told
 
-abbrev Tells_ : Command → Program Told → Type 0
-Tells_ line p = Says (Fits line) p
+abbrev Tells_ : Option ℕ → Command → Program Told → Type 0
+Tells_ own line p = Says (Fits own line) p
 
-stop_says : (line : Command) (meta : Meta) (why : ToldRefusal) → Tells_ line (write_refused meta why)
-stop_says line meta (told_refusal.Conflict other) = λ r. tt
-stop_says line meta (told_refusal.Overlap at) = λ r. tt
-stop_says line meta (told_refusal.LogFault actor) = λ r. tt
-stop_says line meta why = tt
+stop_says : (own : Option ℕ) (line : Command) (meta : Meta) (why : ToldRefusal) → Tells_ own line (write_refused meta why)
+stop_says own line meta (told_refusal.Conflict other) = λ r. tt
+stop_says own line meta (told_refusal.Overlap at) = λ r. tt
+stop_says own line meta (told_refusal.LogFault actor) = λ r. tt
+stop_says own line meta why = tt
 
-resolve_says : (line : Command) (meta : Meta) (fs : List Found) (fates : List FateOf) (stop : ToldRefusal → Program Told) (next : List FateOf → Program Told) → ((why : ToldRefusal) → Tells_ line (stop why)) →
-    ((found : List FateOf) → Tells_ line (next found)) → Tells_ line (resolve_all meta fs fates stop next)
+resolve_says : (own : Option ℕ) (line : Command) (meta : Meta) (fs : List Found) (fates : List FateOf) (stop : ToldRefusal → Program Told) (next : List FateOf → Program Told) → ((why : ToldRefusal) → Tells_ own line (stop why)) →
+    ((found : List FateOf) → Tells_ own line (next found)) → Tells_ own line (resolve_all meta fs fates stop next)
 unfolding resolve_all
-resolve_says line meta [] fates stop next stops goes = goes fates
-resolve_says line meta (f ∷ fs) fates stop next stops goes = elim [
+resolve_says own line meta [] fates stop next stops goes = goes fates
+resolve_says own line meta (f ∷ fs) fates stop next stops goes = elim [
   | reply.FateIs fate.Pending ↦ stops (told_refusal.Conflict f.txn)
-  | reply.FateIs settled ↦ resolve_says line meta fs _ stop next stops goes
+  | reply.FateIs settled ↦ resolve_says own line meta fs _ stop next stops goes
   | reply.Refused why ↦ stops (refusal_told (Status f.status) why)
   | _ ↦ tt
 ]
 
-find_says : (line : Command) (meta : Meta) (place : Place) (stop : ToldRefusal → Program Told) (next : List FateOf → Program Told) → ((why : ToldRefusal) → Tells_ line (stop why)) →
-    ((found : List FateOf) → Tells_ line (next found)) → Tells_ line (find_others meta place stop next)
-find_says line meta place stop next stops goes = elim [
-  | reply.Others found ↦ resolve_says line meta found [] stop next stops goes
+find_says : (own : Option ℕ) (line : Command) (meta : Meta) (place : Place) (stop : ToldRefusal → Program Told) (next : List FateOf → Program Told) → ((why : ToldRefusal) → Tells_ own line (stop why)) →
+    ((found : List FateOf) → Tells_ own line (next found)) → Tells_ own line (find_others meta place stop next)
+find_says own line meta place stop next stops goes = elim [
+  | reply.Others found ↦ resolve_says own line meta found [] stop next stops goes
   | reply.Refused why ↦ stops (refusal_told (Tablet place.tablet) why)
   | _ ↦ tt
 ]
 
-write_says : (line : Command) (s : Keeps) (place : Place) (o : Op) (opened : Option Opened) → ((at : ℕ) → Fits line (told.Written at)) → Tells_ line (write_command s place o opened)
-write_says line s place o None written = tt
-write_says line s place o (Some x) written = doubt_says x.in_doubt
+write_says : (own : Option ℕ) (line : Command) (s : Keeps) (place : Place) (o : Op) (opened : Option Opened) → ((at : ℕ) → Fits own line (told.Written at)) → Tells_ own line (write_command s place o opened)
+write_says own line s place o None written = tt
+write_says own line s place o (Some x) written = doubt_says x.in_doubt
   where
-    doubt_says : (b : Bool) → Tells_ line (if b then refused told_refusal.InDoubt else txn_program (step.Write x.meta (length x.writes) place o x.r s.last))
+    doubt_says : (b : Bool) → Tells_ own line (if b then refused told_refusal.InDoubt else txn_program (step.Write x.meta (length x.writes) place o x.r s.last))
     doubt_says true = tt
-    doubt_says false = find_says line x.meta place (write_refused x.meta) _ (λ why. stop_says line x.meta why) (λ fates. elim [
+    doubt_says false = find_says own line x.meta place (write_refused x.meta) _ (λ why. stop_says own line x.meta why) (λ fates. elim [
       | reply.Written at ↦ written at
-      | reply.Refused why ↦ stop_says line x.meta (refusal_told (Tablet place.tablet) why)
+      | reply.Refused why ↦ stop_says own line x.meta (refusal_told (Tablet place.tablet) why)
       | _ ↦ tt
     ])
 
-single_says : (line : Command) (config : Config) (i : ℕ) (s : Keeps) (priority : ℕ) (place : Place) (o : Op) (opened : Option Opened) → ((x at : ℕ) → Fits line (told.Committed x at)) →
-    Tells_ line (if_closed opened (txn_program (step.Single (next_meta config i s priority) place o s.last)))
-single_says line config i s priority place o (Some x) done = tt
-single_says line config i s priority place o None done = find_says line (next_meta config i s priority) place refused _ (λ why. tt) (λ fates. elim [
-  | reply.SingleDone at ↦ done (next_meta config i s priority).txn at
+single_says : (own : Option ℕ) (line : Command) (config : Config) (i : ℕ) (s : Keeps) (priority : ℕ) (place : Place) (o : Op) (opened : Option Opened) → ((at : ℕ) → Fits own line (told.Committed (txn_id i (s.serial + 1)) at)) →
+    Tells_ own line (if_closed opened (txn_program (step.Single (next_meta config i s priority) place o s.last)))
+single_says own line config i s priority place o (Some x) done = tt
+single_says own line config i s priority place o None done = find_says own line (next_meta config i s priority) place refused _ (λ why. tt) (λ fates. elim [
+  | reply.SingleDone at ↦ done at
   | reply.Refused why ↦ tt
   | _ ↦ tt
 ])
 
-timed_says : (line : Command) (n i : ℕ) (next : ℕ → Program Told) (time : Result ℕ TimeRefusal) → ((now : ℕ) → Tells_ line (next now)) → Tells_ line (timed_then i n next time)
-timed_says line n i next (Ok now) goes = goes now
-timed_says line n i next (Err why) goes = tt
+timed_says : (own : Option ℕ) (line : Command) (n i : ℕ) (next : ℕ → Program Told) (time : Result ℕ TimeRefusal) → ((now : ℕ) → Tells_ own line (next now)) → Tells_ own line (timed_then i n next time)
+timed_says own line n i next (Ok now) goes = goes now
+timed_says own line n i next (Err why) goes = tt
 
-values_fit : (line : Command) (kind : ReadKind) (ws : List Written) (places : List Place) (end : ReadEnd) (w : ReadWhat) → end.what ≡ w → ((at restarts : ℕ) (rows : List Row) → Fits line (told.Values at restarts rows)) →
-    Fits line (read_told kind ws places end)
-values_fit line kind ws places end (what.Values rows) is shows = rw is (shows end.t end.restarts _)
-values_fit line kind ws places end (what.Restart at path) is shows = rw is tt
-values_fit line kind ws places end (what.Refused why) is shows = rw is tt
+values_fit : (own : Option ℕ) (line : Command) (kind : ReadKind) (ws : List Written) (places : List Place) (end : ReadEnd) (w : ReadWhat) → end.what ≡ w → ((at restarts : ℕ) (rows : List Row) → Fits own line (told.Values at restarts rows)) →
+    Fits own line (read_told kind ws places end)
+values_fit own line kind ws places end (what.Values rows) is shows = rw is (shows end.t end.restarts _)
+values_fit own line kind ws places end (what.Restart at path) is shows = rw is tt
+values_fit own line kind ws places end (what.Refused why) is shows = rw is tt
 
-read_says : (line : Command) (config : Config) (i : ℕ) (s : Keeps) (kind : ReadKind) (strict : Bool) (places : List Place) (opened : Option Opened) → ((at restarts : ℕ) (rows : List Row) → Fits line (told.Values at restarts rows)) →
-    Tells_ line (read_command config i s kind strict places opened)
-read_says line config i s kind strict places None shows = λ n. timed_says line n i (read_at config kind strict places n) (least_time s.last 0 n) (λ now.
-    then_says (Fits line) (read_program None kind places now (max now (limit_time n config.skew_us)) strict []) _ (λ end. values_fit line kind [] places end end.what refl shows))
-read_says line config i s kind strict places (Some x) shows = doubt_says x.in_doubt
+read_says : (own : Option ℕ) (line : Command) (config : Config) (i : ℕ) (s : Keeps) (kind : ReadKind) (strict : Bool) (places : List Place) (opened : Option Opened) → ((at restarts : ℕ) (rows : List Row) → Fits own line (told.Values at restarts rows)) →
+    Tells_ own line (read_command config i s kind strict places opened)
+read_says own line config i s kind strict places None shows = λ n. timed_says own line n i (read_at config kind strict places n) (least_time s.last 0 n) (λ now.
+    then_says (Fits own line) (read_program None kind places now (max now (limit_time n config.skew_us)) strict []) _ (λ end. values_fit own line kind [] places end end.what refl shows))
+read_says own line config i s kind strict places (Some x) shows = doubt_says x.in_doubt
   where
-    doubt_says : (b : Bool) → Tells_ line (if b then refused told_refusal.InDoubt else read_inside x kind strict places)
+    doubt_says : (b : Bool) → Tells_ own line (if b then refused told_refusal.InDoubt else read_inside x kind strict places)
     doubt_says true = tt
-    doubt_says false = then_says (Fits line) (read_program (Some x.meta.txn) kind places x.r x.g (strict || has_writes x.writes || x.has_read) x.limits) _ (λ end. values_fit line kind (writes_of x.writes) places end end.what refl shows)
+    doubt_says false = then_says (Fits own line) (read_program (Some x.meta.txn) kind places x.r x.g (strict || has_writes x.writes || x.has_read) x.limits) _ (λ end. values_fit own line kind (writes_of x.writes) places end end.what refl shows)
 
-begin_says : (config : Config) (i : ℕ) (s : Keeps) (priority : ℕ) (opened : Option Opened) → Tells_ (command.Begin priority) (if_closed opened (begin_program config i s priority))
+begin_says : (config : Config) (i : ℕ) (s : Keeps) (priority : ℕ) (opened : Option Opened) → Tells_ (Some (txn_id i (s.serial + 1))) (command.Begin priority) (if_closed opened (begin_program config i s priority))
 begin_says config i s priority (Some x) = tt
-begin_says config i s priority None = λ n. timed_says (command.Begin priority) n i (λ now. txn_program (step.Begin (next_meta config i s priority) now)) (least_time s.last 0 n) (λ now. elim [ reply.Begun ↦ tt | reply.Refused why ↦ tt | _ ↦ tt ])
+begin_says config i s priority None = λ n. timed_says (Some (txn_id i (s.serial + 1))) (command.Begin priority) n i (λ now. txn_program (step.Begin (next_meta config i s priority) now)) (least_time s.last 0 n) (λ now. elim [ reply.Begun ↦ refl | reply.Refused why ↦ tt | _ ↦ tt ])
 
-commit_says : (s : Keeps) (opened : Option Opened) → Tells_ command.Commit (commit_command s opened)
+commit_says : (s : Keeps) (opened : Option Opened) → Tells_ (open_txn opened) command.Commit (commit_command s opened)
 commit_says s None = tt
-commit_says s (Some x) = elim [ reply.Committed at ↦ tt | reply.AbortedBy by ↦ tt | reply.Gone ↦ tt | reply.Refused why ↦ tt | _ ↦ tt ]
+commit_says s (Some x) = elim [ reply.Committed at ↦ refl | reply.AbortedBy by ↦ tt | reply.Gone ↦ refl | reply.Refused why ↦ tt | _ ↦ tt ]
 
 -- of an abort, and of an end
-abort_says : (line : Command) (opened : Option Opened) → ((x : ℕ) → Fits line (told.Ended x)) → ((x at : ℕ) → Fits line (told.Committed x at)) → Tells_ line (abort_command opened)
+abort_says : (line : Command) (opened : Option Opened) → ((x : ℕ) → Fits (Some x) line (told.Ended x)) → ((x at : ℕ) → Fits (Some x) line (told.Committed x at)) → Tells_ (open_txn opened) line (abort_command opened)
 abort_says line None ended committed = tt
 abort_says line (Some x) ended committed = elim [ reply.Ended ↦ ended x.meta.txn | reply.Committed at ↦ committed x.meta.txn at | reply.Refused why ↦ tt | _ ↦ tt ]
 
-restart_says : (a : Actor) → Tells_ (command.Restart a) (restart_program a)
-restart_says a = elim [ reply.Restarted k ↦ tt | reply.Refused why ↦ tt | _ ↦ tt ]
+restart_says : (own : Option ℕ) (a : Actor) → Tells_ own (command.Restart a) (restart_program a)
+restart_says own a = elim [ reply.Restarted k ↦ tt | reply.Refused why ↦ tt | _ ↦ tt ]
 
-over_says : (k : ℕ) (n : Counts) (fs : List Found) → Tells_ (command.Apply k) (pass_over k n fs)
+over_says : (own : Option ℕ) (k : ℕ) (n : Counts) (fs : List Found) → Tells_ own (command.Apply k) (pass_over k n fs)
 unfolding pass_over
-over_says k n [] = tt
-over_says k n (f ∷ fs) = elim [
-  | reply.FateIs fate.Pending ↦ over_says k (record n { left = n.left + 1 }) fs
+over_says own k n [] = tt
+over_says own k n (f ∷ fs) = elim [
+  | reply.FateIs fate.Pending ↦ over_says own k (record n { left = n.left + 1 }) fs
   | reply.FateIs (fate.Committed c) ↦ elim [
-    | reply.AppliedHere ↦ elim [ reply.Noted ↦ over_says k (record n { applied = n.applied + 1 }) fs | reply.Refused why ↦ tt | _ ↦ tt ]
+    | reply.AppliedHere ↦ elim [ reply.Noted ↦ over_says own k (record n { applied = n.applied + 1 }) fs | reply.Refused why ↦ tt | _ ↦ tt ]
     | reply.Refused why ↦ tt
     | _ ↦ tt
   ]
-  | reply.FateIs fate.Aborted ↦ elim [ reply.Cleaned ↦ over_says k (record n { cleaned = n.cleaned + 1 }) fs | reply.Refused why ↦ tt | _ ↦ tt ]
-  | reply.FateIs fate.Absent ↦ elim [ reply.Cleaned ↦ over_says k (record n { cleaned = n.cleaned + 1 }) fs | reply.Refused why ↦ tt | _ ↦ tt ]
+  | reply.FateIs fate.Aborted ↦ elim [ reply.Cleaned ↦ over_says own k (record n { cleaned = n.cleaned + 1 }) fs | reply.Refused why ↦ tt | _ ↦ tt ]
+  | reply.FateIs fate.Absent ↦ elim [ reply.Cleaned ↦ over_says own k (record n { cleaned = n.cleaned + 1 }) fs | reply.Refused why ↦ tt | _ ↦ tt ]
   | reply.Refused why ↦ tt
   | _ ↦ tt
 ]
 
-pass_says : (k : ℕ) → Tells_ (command.Apply k) (pass_program k)
-pass_says k = elim [ reply.Intents found ↦ over_says k _ found | reply.Refused why ↦ tt | _ ↦ tt ]
+pass_says : (own : Option ℕ) (k : ℕ) → Tells_ own (command.Apply k) (pass_program k)
+pass_says own k = elim [ reply.Intents found ↦ over_says own k _ found | reply.Refused why ↦ tt | _ ↦ tt ]
 
 -- ## each line
 
-command_says : (config : Config) (i : ℕ) (s : Keeps) (line : Command) → Tells_ line (command_program config i s line)
+command_says : (config : Config) (i : ℕ) (s : Keeps) (line : Command) → Tells_ (txn_of_line i s line) line (command_program config i s line)
 command_says config i s (command.Begin priority) = begin_says config i s priority s.opened
-command_says config i s (command.Put place v) = write_says (command.Put place v) s place (op.Put v) s.opened (λ at. tt)
-command_says config i s (command.Del place) = write_says (command.Del place) s place op.Delete s.opened (λ at. tt)
+command_says config i s (command.Put place v) = write_says (open_txn s.opened) (command.Put place v) s place (op.Put v) s.opened (λ at. tt)
+command_says config i s (command.Del place) = write_says (open_txn s.opened) (command.Del place) s place op.Delete s.opened (λ at. tt)
 command_says config i s command.Commit = commit_says s s.opened
-command_says config i s command.Abort = abort_says command.Abort s.opened (λ x. tt) (λ x at. tt)
-command_says config i s command.End = abort_says command.End s.opened (λ x. tt) (λ x at. tt)
-command_says config i s (command.Read strict places) = read_says (command.Read strict places) config i s Get strict places s.opened (λ at restarts rows. tt)
-command_says config i s (command.Scan strict place) = read_says (command.Scan strict place) config i s Scan strict (place ∷ []) s.opened (λ at restarts rows. tt)
-command_says config i s (command.SinglePut place v priority) = single_says (command.SinglePut place v priority) config i s priority place (op.Put v) s.opened (λ x at. tt)
-command_says config i s (command.SingleDel place priority) = single_says (command.SingleDel place priority) config i s priority place op.Delete s.opened (λ x at. tt)
-command_says config i s (command.Restart actor) = restart_says actor
-command_says config i s (command.Apply tablet) = pass_says tablet
+command_says config i s command.Abort = abort_says command.Abort s.opened (λ x. refl) (λ x at. refl)
+command_says config i s command.End = abort_says command.End s.opened (λ x. refl) (λ x at. refl)
+command_says config i s (command.Read strict places) = read_says (open_txn s.opened) (command.Read strict places) config i s Get strict places s.opened (λ at restarts rows. tt)
+command_says config i s (command.Scan strict place) = read_says (open_txn s.opened) (command.Scan strict place) config i s Scan strict (place ∷ []) s.opened (λ at restarts rows. tt)
+command_says config i s (command.SinglePut place v priority) = single_says (Some (txn_id i (s.serial + 1))) (command.SinglePut place v priority) config i s priority place (op.Put v) s.opened (λ at. refl)
+command_says config i s (command.SingleDel place priority) = single_says (Some (txn_id i (s.serial + 1))) (command.SingleDel place priority) config i s priority place op.Delete s.opened (λ at. refl)
+command_says config i s (command.Restart actor) = restart_says (open_txn s.opened) actor
+command_says config i s (command.Apply tablet) = pass_says (open_txn s.opened) tablet
 command_says config i s (command.Clock node micros) = tt
 
 -- and of each mover
-pub line_says : (config : Config) (m : Actor) (s : Keeps) (line : Command) → Says (Fits line) (program_of config m s line)
+pub line_says : (config : Config) (m : Actor) (s : Keeps) (line : Command) → Says (Fits (txn_of_line (session_of m) s line) line) (program_of config m s line)
 line_says config (Session i) s line = command_says config i s line
-line_says config (Applier k) s (command.Apply tablet) = pass_says tablet
-line_says config (Tablet k) s (command.Apply tablet) = pass_says tablet
-line_says config (Status j) s (command.Apply tablet) = pass_says tablet
+line_says config (Applier k) s (command.Apply tablet) = pass_says (open_txn s.opened) tablet
+line_says config (Tablet k) s (command.Apply tablet) = pass_says (open_txn s.opened) tablet
+line_says config (Status j) s (command.Apply tablet) = pass_says (open_txn s.opened) tablet
 line_says config (Applier k) s line = tt
 line_says config (Tablet k) s line = tt
 line_says config (Status j) s line = tt

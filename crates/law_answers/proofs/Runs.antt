@@ -11,7 +11,7 @@ use Rattle.txn_types.specs.Lists.{Member}
 use Rattle.txn_types.specs.History.{History}
 use Rattle.txn_types.specs.Reads.{before_start}
 use Rattle.txn_types.specs.Session.{Keeps}
-use Rattle.txn_types.specs.Run.{Run, Steps, mover_at, program_of}
+use Rattle.txn_types.specs.Run.{Run, Steps, mover_at, program_of, session_of}
 use Rattle.txn_types.specs.Cause.{ToldAt, tells, tells_by}
 use Rattle.law_machines.proofs.Basics.{member_cases}
 use Rattle.law_courses.specs.Course.{entry_of}
@@ -20,20 +20,20 @@ use Rattle.law_courses.proofs.Courses.{told_came_about}
 use Rattle.law_told_commits.proofs.Says.{says_came}
 use Rattle.law_answers.proofs.Programs.{Fits, line_says}
 use Rattle.law_answers.specs.Laws.{EachCommandHasItsAnswer}
-use Rattle.txn_promises.specs.Answers.{IsAnswerTo, IsRefusal, IsAnswered}
+use Rattle.txn_promises.specs.Answers.{txn_of_line, IsAnswerTo, IsRefusal, IsAnswered}
 
-one_of_two : (line : Command) (t : Told) → Fits line t → IsRefusal t ⊎ IsAnswerTo line t
-one_of_two line (told.Refused why) fits = inl tt
-one_of_two line t fits = inr fits
+one_of_two : (own : Option ℕ) (line : Command) (t : Told) → Fits own line t → IsRefusal t ⊎ IsAnswerTo own line t
+one_of_two own line (told.Refused why) fits = inl tt
+one_of_two own line t fits = inr fits
 
-came_fits : (config : Config) (m : Actor) (h low : History) (s : Keeps) (reading : Option ℕ) (o : Option Command) (t : Told) → CameAbout config m h low s reading o t → (line : Command) × (o ≡ Some line) × Fits line t
+came_fits : (config : Config) (m : Actor) (h low : History) (s : Keeps) (reading : Option ℕ) (o : Option Command) (t : Told) → CameAbout config m h low s reading o t → (line : Command) × (o ≡ Some line) × Fits (txn_of_line (session_of m) s line) line t
 came_fits config m h low s reading None t came = absurd came
 came_fits config m h low s reading (Some line) t came = (
   line,
   refl,
   elim came.1 [
-    | inl way ↦ says_came (Fits line) m h reading low None (program_of config m s line) t (line_says config m s line) way
-    | inr memory ↦ subst (λ (u : Told). Fits line u) (sym memory) tt
+    | inl way ↦ says_came (Fits (txn_of_line (session_of m) s line) line) m h reading low None (program_of config m s line) t (line_says config m s line) way
+    | inr memory ↦ subst (λ (u : Told). Fits (txn_of_line (session_of m) s line) line u) (sym memory) tt
   ],
 )
 
@@ -43,7 +43,7 @@ event_answered config m reading (Tell number now) h t run here = elim here [
       let s = mover_at config m h in
       let came = came_fits config m (entry_of m reading (Tell number now) ∷ h) (before_start m h) s.keeps s.reading s.line now
       (told_came_about config (entry_of m reading (Tell number now) ∷ h) h (entry_of m reading (Tell number now)) run (inl (refl, refl))) in
-      subst (λ (u : ToldAt). IsAnswered config u) (sym is) (record { line = came.0; under_way = came.1; fits = one_of_two came.0 now came.2 })
+      subst (λ (u : ToldAt). IsAnswered config u) (sym is) (record { line = came.0; under_way = came.1; fits = one_of_two (txn_of_line (session_of m) s.keeps came.0) came.0 now came.2 })
   | inr nothing ↦ absurd nothing
 ]
 event_answered config m reading (Start number line) h t run here = absurd here

@@ -22,8 +22,9 @@ use Rattle.txn_types.specs.Reads.{before_start}
 use Rattle.txn_types.specs.Session.{Keeps, Opened, IsOpen}
 use Rattle.txn_types.specs.Run.{Run, Mover, CanTell, mover_at, program_of}
 use Rattle.txn_types.specs.Cause.{ToldAt, tells, ServedAt, served_since, needs_open, needs_closed, works_inside, end_failed, InDoubt}
+use Rattle.txn_promises.specs.Lines.{TellsOrMemory}
 use Rattle.txn_promises.specs.Leaves.{asked_since}
-use Rattle.txn_promises.specs.Refuses.{TellsOrMemory, AtOnce}
+use Rattle.txn_promises.specs.Refuses.{AtOnce}
 use Rattle.law_machines.proofs.Basics.{eq_true, any_member}
 use Rattle.law_open_txns.specs.Transaction.{IsEndOf}
 use Rattle.law_open_txns.proofs.Open.{OpenOk, OpenedOk, IdleOk}

@@ -17,6 +17,6 @@ EarlyOf t u = Unit {0}
 abbrev pub EarlyRefusal : ToldAt → Type 0
 EarlyRefusal t = EarlyOf t t.told
 
--- a session's own refusals are told where their conditions hold, and before anything is asked
+-- a session's own refusals are told where their conditions hold, or out of memory is; and before anything is asked
 abbrev pub RefusedAtOnce : Type 0
 RefusedAtOnce = (config : Config) (h : History) (t : ToldAt) → Run config h → Member t (tells h) → AtOnce config t × EarlyRefusal t

@@ -1,7 +1,7 @@
 //! What a session refuses of its own.
 //!
-//! A law over every run: the session's own refusals are told where the line asks for what is not there, at once and before
-//! anything is asked; and no such refusal is told once something was asked. A call does nothing.
+//! A law over every run: the session's own refusals are told where the line asks for what is not there, or out of memory is;
+//! and no such refusal is told once something was asked. A call does nothing.
 #![tactic(auto)]
 
 mod laws;

@@ -189,7 +189,7 @@ heard_failed config m h x (told.Refused (told_refusal.LogFault a)) faulted is =
     let heard = is.2 in
     failed_stands x (entry_of (Status is.0) heard.reading (Serve m is.1 (reply.Refused refusal.LogFault) heard.time heard.append)) heard.before h
     (failed_event x m is.1 (reply.Refused refusal.LogFault) heard.time heard.append is.3
-    (served_says config.lease_us (Status is.0) (own (Status is.0) heard.before) heard.reading is.1 (reply.Refused refusal.LogFault) heard.time heard.append refusal.LogFault heard.serves refl))
+    (served_says config.lease_us (Status is.0) (own (Status is.0) heard.before) heard.reading is.1 (reply.Refused refusal.LogFault) heard.time heard.append refusal.LogFault heard.serves refl (λ e. cc)))
     heard.stands
 heard_failed config m h x t faulted is = absurd faulted
 

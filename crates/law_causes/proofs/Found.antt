@@ -26,7 +26,8 @@ use Rattle.txn_types.specs.Run.{Run, mover_at}
 use Rattle.txn_types.specs.Cause.{ToldAt, ServedAt, CauseOf, newcomers, found_ids, is_strict}
 use Rattle.law_machines.proofs.Basics.{eq_cases}
 use Rattle.law_causes.proofs.Goes.{IsPlain, Settle, Listed, Because, ByMachine, ByWrite, ByPending, ByAborted, ByMet, OutOfMemory}
-use Rattle.law_refusals.specs.Refusals.{Explains, ConflictsAt, OverlapsThen}
+use Rattle.txn_promises.specs.Refuses.{MeetsConflict, MeetsOverlap}
+use Rattle.law_refusals.specs.Refusals.{Explains}
 use Rattle.law_refusals.proofs.Tables.{served_says, reading_of, pending_at, aborted_at}
 use Rattle.law_refusals.proofs.Overlaps.{overlap_commit}
 use Rattle.law_refusals.proofs.Aborts.{aborted_resolved}
@@ -79,8 +80,8 @@ module _ (config : Config) (t : ToldAt) (run : Run config t.before) where
   abbrev H : Actor → Request → Reply → Type 0
   H = Heard config t.who t.before
 
-  explained : (a : Actor) (asked : Request) (r : Refusal) (h : Heard config t.who t.before a asked (reply.Refused r)) → Explains config.lease_us (own a h.before) h.reading asked h.append r
-  explained a asked r h = served_says config.lease_us a (own a h.before) h.reading asked (reply.Refused r) h.time h.append r h.serves refl
+  explained : (a : Actor) (asked : Request) (r : Refusal) (h : Heard config t.who t.before a asked (reply.Refused r)) → (r ≡ refusal.Memory → ⊥) → Explains config.lease_us (own a h.before) h.reading asked h.append r
+  explained a asked r h real = served_says config.lease_us a (own a h.before) h.reading asked (reply.Refused r) h.time h.append r h.serves refl real
 
   abbrev served : (a : Actor) (asked : Request) (r : Reply) → Heard config t.who t.before a asked r → ServedAt
   served a asked r h = record { by = a; reading = h.reading; asked = asked; reply = r; append = h.append; before = h.before }
@@ -91,34 +92,34 @@ module _ (config : Config) (t : ToldAt) (run : Run config t.before) where
   machine_cause a asked (refusal.Conflict other) h conflicts overlaps = conflicts other refl
   machine_cause a asked (refusal.Overlap at) h conflicts overlaps = overlaps at refl
   machine_cause a asked (refusal.LeaseHeld until) h conflicts overlaps =
-      let e = explained a asked (refusal.LeaseHeld until) h in
+      let e = explained a asked (refusal.LeaseHeld until) h (λ e. cc) in
       record { served = served a asked (reply.Refused (refusal.LeaseHeld until)) h; here = h.here; by = refl; answered = refl; takes = e.0; lease = e.1; none_given = e.2; early = e.3 }
   machine_cause a asked (refusal.ClockFull at) h conflicts overlaps =
-      let e = explained a asked (refusal.ClockFull at) h in
+      let e = explained a asked (refusal.ClockFull at) h (λ e. cc) in
       record { served = served a asked (reply.Refused (refusal.ClockFull at)) h; here = h.here; by = refl; answered = refl; takes = e.0; floor = e.1.0; asks = e.1.1; greater = e.1.2; ended = e.2; early = e.3 }
   machine_cause a asked (refusal.ClockRange n) h conflicts overlaps =
-      let e = explained a asked (refusal.ClockRange n) h in
+      let e = explained a asked (refusal.ClockRange n) h (λ e. cc) in
       (e.1, inr (record { served = served a asked (reply.Refused (refusal.ClockRange n)) h; here = h.here; by = refl; answered = refl; takes = e.0; read = reading_of asked (own a h.before) h.reading n h.serves.fits e.0 e.2 }))
   machine_cause a asked refusal.LogFault h conflicts overlaps =
-      record { served = served a asked (reply.Refused refusal.LogFault) h; here = h.here; by = refl; faulted = refl; failed = explained a asked refusal.LogFault h }
+      record { served = served a asked (reply.Refused refusal.LogFault) h; here = h.here; by = refl; faulted = refl; failed = explained a asked refusal.LogFault h (λ e. cc) }
   machine_cause a asked (refusal.Down since) h conflicts overlaps =
-      let e = explained a asked (refusal.Down since) h in
+      let e = explained a asked (refusal.Down since) h (λ e. cc) in
       record { served = served a asked (reply.Refused (refusal.Down since)) h; here = h.here; by = refl; answered = refl; no_restart = e.0; down = e.1 }
   machine_cause a asked refusal.Memory h conflicts overlaps = tt
 
-  plain_conflict : (asked : Request) (o : History) (other : ℕ) → IsPlain asked → ConflictsAt asked o other → ⊥
+  plain_conflict : (asked : Request) (o : History) (other : ℕ) → IsPlain asked → MeetsConflict asked o other → ⊥
   plain_conflict (request.Write meta number path op read seen fates) o other plain is = absurd plain
   plain_conflict (request.Single x path op seen fates) o other plain is = absurd plain
   plain_conflict asked o other plain is = absurd is
 
-  plain_overlap : (asked : Request) (o : History) (at : ℕ) → IsPlain asked → OverlapsThen asked o at → ⊥
+  plain_overlap : (asked : Request) (o : History) (at : ℕ) → IsPlain asked → MeetsOverlap asked o at → ⊥
   plain_overlap (request.Write meta number path op read seen fates) o at plain is = absurd plain
   plain_overlap asked o at plain is = absurd is
 
   plain_cause : (a : Actor) (asked : Request) (r : Refusal) → Heard config t.who t.before a asked (reply.Refused r) → IsPlain asked → CauseOf config t (refusal_told a r)
   plain_cause a asked r h plain = machine_cause a asked r h
-      (λ other is. absurd (plain_conflict asked (own a h.before) other plain (subst (Explains config.lease_us (own a h.before) h.reading asked h.append) is (explained a asked r h))))
-      (λ at is. absurd (plain_overlap asked (own a h.before) at plain (subst (Explains config.lease_us (own a h.before) h.reading asked h.append) is (explained a asked r h))))
+      (λ other is. absurd (plain_conflict asked (own a h.before) other plain (subst (Explains config.lease_us (own a h.before) h.reading asked h.append) is (explained a asked r h (λ e. let wrong = sym is ∙ e in cc)))))
+      (λ at is. absurd (plain_overlap asked (own a h.before) at plain (subst (Explains config.lease_us (own a h.before) h.reading asked h.append) is (explained a asked r h (λ e. let wrong = sym is ∙ e in cc)))))
 
   -- ## writes
 
@@ -136,10 +137,10 @@ module _ (config : Config) (t : ToldAt) (run : Run config t.before) where
     same_tablet = refl;
     listed = refl;
     told = refl;
-    least = came listed.txn listed.path listed.fates listed.found (own (Tablet k) h.before) other listed.settle (conflict_of asked (own (Tablet k) h.before) other listed (explained (Tablet k) asked (refusal.Conflict other) h));
+    least = came listed.txn listed.path listed.fates listed.found (own (Tablet k) h.before) other listed.settle (conflict_of asked (own (Tablet k) h.before) other listed (explained (Tablet k) asked (refusal.Conflict other) h (λ e. cc)));
   })
     where
-      conflict_of : (q : Request) (o : History) (y : ℕ) (l : Listed H k q) → ConflictsAt q o y → conflict l.txn l.path l.fates (provisional o) ≡ Some y
+      conflict_of : (q : Request) (o : History) (y : ℕ) (l : Listed H k q) → MeetsConflict q o y → conflict l.txn l.path l.fates (provisional o) ≡ Some y
       conflict_of (request.Write meta number path op read seen fates) o y l is =
           subst (λ (fs : List FateOf). conflict l.txn l.path fs (provisional o) ≡ Some y) l.carries
           (subst (λ (p : Parts). conflict l.txn p fates (provisional o) ≡ Some y) l.writes.1 (subst (λ (x : ℕ). conflict x path fates (provisional o) ≡ Some y) l.writes.0 is))
@@ -150,10 +151,10 @@ module _ (config : Config) (t : ToldAt) (run : Run config t.before) where
 
   overlap_cause : (k : ℕ) (asked : Request) (at : ℕ) → Heard config t.who t.before (Tablet k) asked (reply.Refused (refusal.Overlap at)) → CauseOf config t (why.Overlap at)
   overlap_cause k (request.Write meta number path op read seen fates) at h =
-      let e = explained (Tablet k) (request.Write meta number path op read seen fates) (refusal.Overlap at) h in
+      let e = explained (Tablet k) (request.Write meta number path op read seen fates) (refusal.Overlap at) h (λ e. cc) in
       let c = overlap_commit config t.before h.before k t.who meta number path op read seen fates h.reading (reply.Refused (refusal.Overlap at)) h.time h.append at run h.stands e.1 in
       record { served = served (Tablet k) (request.Write meta number path op read seen fates) (reply.Refused (refusal.Overlap at)) h; here = h.here; answered = refl; commit = c.0; overlaps = (e.0, e.1, c.3); is_committed = c.1; commit_time = c.2 }
-  overlap_cause k asked at h = absurd (explained (Tablet k) asked (refusal.Overlap at) h)
+  overlap_cause k asked at h = absurd (explained (Tablet k) asked (refusal.Overlap at) h (λ e. cc))
 
   write_cause : (k : ℕ) (asked : Request) (r : Refusal) → Heard config t.who t.before (Tablet k) asked (reply.Refused r) → Listed H k asked → CauseOf config t (refusal_told (Tablet k) r)
   write_cause k asked r h listed = machine_cause (Tablet k) asked r h

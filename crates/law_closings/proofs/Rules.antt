@@ -1,4 +1,4 @@
--- Once a commit or an abort of a transaction was answered so that it closes, none is asked again.
+-- Once a commit or an abort of a transaction was answered so that it closes, none is served again.
 use Rattle.std.proofs.Common.{◌≡◌, ℕ, Bool, true, false, ◌&&◌, List, ◌∷◌, Option, Some, None, refl, sym, ◌∙◌, ap, subst, inl, inr, ◌⊎◌}
 use Rattle.txn_data.specs.declared.actor.Actor.{Actor}
 use Rattle.txn_data.specs.declared.actor.Actor.TheVariants.{Tablet, Status, Session, Applier}

@@ -32,6 +32,6 @@ abbrev pub Closes : ℕ → Event → Type 0
 Closes x (Serve from asked r time append) = Ends x asked × ClosesBy asked r
 Closes x event = ⊥
 
--- once a commit or an abort of a transaction was answered so that it is closed, none is asked again
+-- once a commit or an abort of a transaction was answered so that it is closed, none is served again
 abbrev pub ClosedIsNotEnded : Type 0
 ClosedIsNotEnded = (config : Config) (h before : History) (e k : Entry) (x : ℕ) → Run config h → StandsOver e before h → EndsAt x e.event → Member k before → Closes x k.event → ⊥

@@ -1,6 +1,6 @@
 //! A transaction is closed once.
 //!
-//! A law over every run: once a commit or an abort of a transaction was answered so that it is closed, none is asked again. A
+//! A law over every run: once a commit or an abort of a transaction was answered so that it is closed, none is served again. A
 //! call does nothing.
 #![tactic(auto)]
 

@@ -1,5 +1,5 @@
 -- What was served for a command that ends a transaction, and what such a command came to.
-use Rattle.std.proofs.Common.{◌≡◌, ℕ, List, [], ◌∷◌, Option, Some, refl, sym, ◌∙◌, ap, subst, inl, inr}
+use Rattle.std.proofs.Common.{◌≡◌, ℕ, List, [], ◌∷◌, Option, Some, refl, sym, ◌∙◌, ap, subst, inl, inr, ◌⊎◌}
 use Rattle.txn_data.specs.declared.actor.Actor.{Actor}
 use Rattle.txn_data.specs.declared.actor.Actor.TheVariants.{Status, Session}
 use Rattle.txn_data.specs.declared.append.Append.{Append}
@@ -31,12 +31,15 @@ use Rattle.law_messages.proofs.Rules.{told_memory}
 use Rattle.law_owners.specs.Owner.{home_of, owner_of, IsHomedAt}
 use Rattle.law_owners.proofs.Runs.{requests_homed}
 use Rattle.txn_promises.specs.Ends.{AsksEnd}
-use Rattle.law_endings.specs.Laws.{IsAbortLine}
 use Rattle.law_closings.specs.Laws.{Ends}
 use Rattle.law_closings.proofs.Rules.{Free}
 use Rattle.law_closings.proofs.Keeping.{ends_once}
 use Rattle.law_endings.proofs.OneAsk.{Outcome, told_one}
 use Rattle.law_endings.proofs.Lives.{since_stands}
+
+-- an abort or an end
+abbrev pub IsAbortLine : Command → Type 0
+IsAbortLine line = (line ≡ command.Abort) ⊎ (line ≡ command.End)
 
 -- ## where it was told
 

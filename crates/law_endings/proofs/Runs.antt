@@ -26,8 +26,8 @@ use Rattle.txn_types.specs.Program.{Program, Done}
 use Rattle.txn_types.specs.TxnProgram.{refused}
 use Rattle.txn_types.specs.Reads.{before_start}
 use Rattle.txn_types.specs.Session.{Keeps, Opened, commit_command, abort_command}
-use Rattle.txn_types.specs.Run.{Allowed, Run, mover_at, program_of}
-use Rattle.txn_types.specs.Cause.{ToldAt, ServedAt, own_then}
+use Rattle.txn_types.specs.Run.{Allowed, Run, mover_at, program_of, session_of}
+use Rattle.txn_types.specs.Cause.{ToldAt, tells, ServedAt, own_then}
 use Rattle.law_machines.specs.Own.{StandsOver}
 use Rattle.law_machines.proofs.Counted.{WasServed}
 use Rattle.law_machines.proofs.Owns.{stands_member}
@@ -44,15 +44,15 @@ use Rattle.law_told_commits.proofs.Commits.{Begins, Snapshot, Single, kind_of, o
 use Rattle.law_answers.proofs.Runs.{each_answered}
 use Rattle.law_left.proofs.Rests.{stands_in}
 use Rattle.law_left.proofs.Fates.{in_home_log, later_life}
-use Rattle.txn_promises.specs.Answers.{IsAnswerTo, IsRefusal}
+use Rattle.txn_promises.specs.Answers.{txn_of_line, IsAnswerTo, IsRefusal}
 use Rattle.txn_promises.specs.Ends.{IsEnd}
-use Rattle.law_endings.specs.Laws.{IsAbortLine, EndedNeverCommits}
+use Rattle.law_endings.specs.Laws.{EndedNeverCommits}
 use Rattle.law_closings.proofs.Rules.{BeginsFor}
 use Rattle.law_endings.proofs.OneAsk.{OfNone, OfOne, Unsettled}
 use Rattle.law_endings.proofs.Tables.{ended_record}
 use Rattle.law_endings.proofs.Records.{IsAbort, abort_leaves}
 use Rattle.law_endings.proofs.Lives.{absent_dead}
-use Rattle.law_endings.proofs.Asked.{place_of, commit_gone, abort_ended, EndAt, end_at, then_home, served_as, commit_came, abort_came}
+use Rattle.law_endings.proofs.Asked.{IsAbortLine, place_of, commit_gone, abort_ended, EndAt, end_at, then_home, served_as, commit_came, abort_came}
 use Rattle.law_endings.proofs.Told.{ended_one, serves_abort, NoPass, abort_passes, told_session, Told_, told_here}
 
 -- ## what was told Ended never commits
@@ -148,16 +148,16 @@ module _ (config : Config) (i : ℕ) (h : History) (reading : Option ℕ) (numbe
 abbrev EndsLine : Command → Type 0
 EndsLine line = (line ≡ command.Commit) ⊎ IsAbortLine line
 
-ends_line : (line : Command) (x : ℕ) → IsAnswerTo line (told.Ended x) → EndsLine line
-ends_line command.Commit x is = inl refl
-ends_line command.Abort x is = inr (inl refl)
-ends_line command.End x is = inr (inr refl)
-ends_line line x is = absurd is
+ends_line : (own : Option ℕ) (line : Command) (x : ℕ) → IsAnswerTo own line (told.Ended x) → EndsLine line
+ends_line own command.Commit x is = inl refl
+ends_line own command.Abort x is = inr (inl refl)
+ends_line own command.End x is = inr (inr refl)
+ends_line own line x is = absurd is
 
-ended_line : (line : Command) (t : Told) (x : ℕ) → t ≡ told.Ended x → IsRefusal t ⊎ IsAnswerTo line t → EndsLine line
-ended_line line t x is fits = elim fits [
+ended_line : (own : Option ℕ) (line : Command) (t : Told) (x : ℕ) → t ≡ told.Ended x → IsRefusal t ⊎ IsAnswerTo own line t → EndsLine line
+ended_line own line t x is fits = elim fits [
   | inl refusal ↦ absurd (subst IsRefusal is refusal)
-  | inr answer ↦ ends_line line x (subst (λ (u : Told). IsAnswerTo line u) is answer)
+  | inr answer ↦ ends_line own line x (subst (λ (u : Told). IsAnswerTo own line u) is answer)
 ]
 
 ends_passes : (line : Command) → EndsLine line → NoPass line
@@ -222,14 +222,17 @@ dead_later config h b e x stands is = record {
   begins = is.begins;
 }
 
-pub ended_never_commits : EndedNeverCommits
-ended_never_commits config h t x run here is =
+all_ended : (config : Config) (h : History) (t : ToldAt) (x : ℕ) → Run config h → Member t (tells h) → t.told ≡ told.Ended x → ((line : Command) × IsEnd config t line x) × ((y : CommittedTxn) → Member y (committed h) → y.txn ≡ x → ⊥)
+all_ended config h t x run here is =
     let place = place_of config h t here in
     let answer = each_answered config h t run here in
-    let kind = ended_line answer.line t.told x is answer.fits in
+    let kind = ended_line (txn_of_line (session_of t.who) (mover_at config t.who t.before).keeps answer.line) answer.line t.told x is answer.fits in
     let e = entry_of t.who t.reading (Tell place.number t.told) in
     let s = mover_at config t.who t.before in
     let came : CameAbout config t.who (e ∷ t.before) (before_start t.who t.before) s.keeps s.reading (Some answer.line) t.told =
     subst (λ (o : Option Command). CameAbout config t.who (e ∷ t.before) (before_start t.who t.before) s.keeps s.reading o t.told) answer.under_way (told_came_about config h t.before e run place.stands) in
     let ended = ended_at config t x answer.line (told_session config h t answer.line run place answer.under_way (ends_passes answer.line kind)) (told_here config h t run place) answer.under_way kind is (e ∷ t.before) came in
     (ended.0, λ y m same. never_commits config h x y run (dead_later config h t.before e x place.stands ended.1) m same)
+
+pub ended_never_commits : EndedNeverCommits
+ended_never_commits config h t run here = (λ x is. (all_ended config h t x run here is).0, λ x is y m same. (all_ended config h t x run here is).1 y m same)

@@ -1,5 +1,5 @@
 -- When a commit is told Ended, and an abort Committed.
-use Rattle.std.proofs.Common.{◌≡◌, ℕ, List, [], ◌∷◌, Option, Some, None, refl, sym, ◌∙◌, ap, subst, inl, inr}
+use Rattle.std.proofs.Common.{◌≡◌, ℕ, true, List, [], ◌∷◌, Option, Some, None, refl, sym, ◌∙◌, ap, subst, inl, inr}
 use Rattle.txn_data.specs.declared.actor.Actor.{Actor}
 use Rattle.txn_data.specs.declared.actor.Actor.TheVariants.{Tablet, Status, Session, Applier}
 use Rattle.txn_data.specs.declared.append.Append.TheVariants.{Failed}
@@ -33,13 +33,14 @@ use Rattle.law_courses.proofs.Courses.{told_came_about}
 use Rattle.law_messages.proofs.Rules.{told_memory}
 use Rattle.law_owners.specs.Owner.{home_of}
 use Rattle.law_fates.proofs.Own.{lands_own}
-use Rattle.txn_promises.specs.Ends.{AsksEnd, IsEnd, FoundRecord, FailsToAbort, KeptAbort, AbsentByAbort}
-use Rattle.law_endings.specs.Laws.{CommitsToldEnded, KeptAbortsLeaveNone, IsAbortLine, AbortsToldCommitted}
+use Rattle.txn_promises.specs.Lines.{is_abort_line}
+use Rattle.txn_promises.specs.Ends.{AsksEnd, IsEnd, FoundRecord, FailsToAbort, KeptAbort, AbsentByAbort, CommitEnds, AbortCommits}
+use Rattle.law_endings.specs.Laws.{CommitsToldEnded, KeptAbortsLeaveNone, AbortsToldCommitted}
 use Rattle.law_endings.proofs.OneAsk.{OfNone, OfOne, Unsettled}
 use Rattle.law_endings.proofs.Tables.{gone_record, none_gone, committed_record, record_told}
 use Rattle.law_endings.proofs.Records.{IsAbort, abort_leaves}
 use Rattle.law_endings.proofs.Lives.{kept_abort}
-use Rattle.law_endings.proofs.Asked.{Place, place_of, commit_next, done_same, commit_gone, abort_next, abort_committed, EndAt, end_at, then_home, one_member, no_member, served_as, commit_came, abort_came}
+use Rattle.law_endings.proofs.Asked.{IsAbortLine, Place, place_of, commit_next, done_same, commit_gone, abort_next, abort_committed, EndAt, end_at, then_home, one_member, no_member, served_as, commit_came, abort_came}
 
 -- ## a commit is told Ended
 
@@ -191,38 +192,38 @@ told_here config h t run place =
     let up_to : Steps config (e ∷ t.before) = steps_at config e t.before h run.1 place.stands in
     record { number = place.number; run = run_until config h t.before e run place.stands; ok = up_to.1 }
 
-abbrev CommitSays : Config → ToldAt → ℕ → Type 0
-CommitSays config t x = (t.told ≡ told.Ended x → AbsentByAbort t command.Commit x) × (FoundRecord t command.Commit x NoRecord → t.told ≡ told.Ended x)
-
-commit_says : (config : Config) (t : ToldAt) (x : ℕ) → (i : ℕ) × (t.who ≡ Session i) → Told_ config t → IsEnd config t command.Commit x → CommitSays config t x
+commit_says : (config : Config) (t : ToldAt) (x : ℕ) → (i : ℕ) × (t.who ≡ Session i) → Told_ config t → IsEnd config t command.Commit x → CommitEnds t x
 commit_says config t x who =
     subst (λ (a : Actor). Told_ config (record { who = a; reading = t.reading; told = t.told; before = t.before }) → IsEnd config (record { who = a; reading = t.reading; told = t.told; before = t.before }) command.Commit x →
-    CommitSays config (record { who = a; reading = t.reading; told = t.told; before = t.before }) x) (sym who.1)
-    (λ at end. (
-      commit_ended config who.0 t.before t.reading at.number t.told at.run at.ok end.opened end.is_open x end.txn end.under_way,
-      commit_found config who.0 t.before t.reading at.number t.told at.run at.ok end.opened end.is_open x end.txn end.under_way,
-    ))
+    CommitEnds (record { who = a; reading = t.reading; told = t.told; before = t.before }) x) (sym who.1)
+    (λ at end. record {
+      absent = commit_ended config who.0 t.before t.reading at.number t.told at.run at.ok end.opened end.is_open x end.txn end.under_way;
+      ended = commit_found config who.0 t.before t.reading at.number t.told at.run at.ok end.opened end.is_open x end.txn end.under_way;
+    })
 
 pub commits_told_ended : CommitsToldEnded
 commits_told_ended config h t x run here end =
     let place = place_of config h t here in
     commit_says config t x (told_session config h t command.Commit run place end.under_way tt) (told_here config h t run place) end
 
-abbrev AbortSays : Config → ToldAt → Command → ℕ → ℕ → Type 0
-AbortSays config t line x c = (t.told ≡ told.Committed x c → (tablets : List ℕ) × FoundRecord t line x (status.Committed c tablets)) × ((tablets : List ℕ) → FoundRecord t line x (status.Committed c tablets) → t.told ≡ told.Committed x c)
+abort_line : (line : Command) → is_abort_line (Some line) ≡ true → IsAbortLine line
+abort_line command.Abort is = inl refl
+abort_line command.End is = inr refl
+abort_line line is = cc
 
-abort_says : (config : Config) (t : ToldAt) (line : Command) (x c : ℕ) → IsAbortLine line → (i : ℕ) × (t.who ≡ Session i) → Told_ config t → IsEnd config t line x → AbortSays config t line x c
+abort_says : (config : Config) (t : ToldAt) (line : Command) (x c : ℕ) → IsAbortLine line → (i : ℕ) × (t.who ≡ Session i) → Told_ config t → IsEnd config t line x → AbortCommits t line x c
 abort_says config t line x c kind who =
     subst (λ (a : Actor). Told_ config (record { who = a; reading = t.reading; told = t.told; before = t.before }) → IsEnd config (record { who = a; reading = t.reading; told = t.told; before = t.before }) line x →
-    AbortSays config (record { who = a; reading = t.reading; told = t.told; before = t.before }) line x c) (sym who.1)
-    (λ at end. (
-      abort_told config who.0 t.before t.reading at.number t.told at.run at.ok end.opened end.is_open x end.txn line kind end.under_way c,
-      abort_found config who.0 t.before t.reading at.number t.told at.run at.ok end.opened end.is_open x end.txn line kind end.under_way c,
-    ))
+    AbortCommits (record { who = a; reading = t.reading; told = t.told; before = t.before }) line x c) (sym who.1)
+    (λ at end. record {
+      found = abort_told config who.0 t.before t.reading at.number t.told at.run at.ok end.opened end.is_open x end.txn line kind end.under_way c;
+      committed = abort_found config who.0 t.before t.reading at.number t.told at.run at.ok end.opened end.is_open x end.txn line kind end.under_way c;
+    })
 
 pub aborts_told_committed : AbortsToldCommitted
-aborts_told_committed config h t line x c run here end kind =
+aborts_told_committed config h t line x c run here end is =
     let place = place_of config h t here in
+    let kind = abort_line line is in
     abort_says config t line x c kind (told_session config h t line run place end.under_way (abort_passes line kind)) (told_here config h t run place) end
 
 -- ## a kept abort leaves no record

@@ -33,7 +33,7 @@ use Rattle.txn_types.specs.Tablet.{txn_of, provisional, others_on, conflict, fir
 use Rattle.txn_types.specs.Session.{Keeps, Opened, next_meta, write_command, if_closed}
 use Rattle.txn_types.specs.Run.{program_of}
 use Rattle.txn_types.specs.Cause.{ServedAt, newcomers, found_ids, WritesFor}
-use Rattle.txn_promises.specs.Leaves.{is_write, is_single}
+use Rattle.txn_promises.specs.Lines.{is_write, is_single}
 use Rattle.txn_promises.specs.Refuses.{MeetsConflict}
 use Rattle.law_machines.proofs.Basics.{eq_cases}
 use Rattle.law_courses.specs.Laws.{CouldStart}

@@ -2,8 +2,6 @@ pub mod Heeds
 pub mod Means
 pub mod Programs
 pub mod Lines
-pub mod Tables
-pub mod Shapes
 pub mod Between
 pub mod Says
 pub mod Runs

@@ -23,10 +23,11 @@ use Rattle.txn_types.specs.TxnProgram.{refused, txn_program}
 use Rattle.txn_types.specs.PassProgram.{pass_program}
 use Rattle.txn_types.specs.Session.{Keeps, Opened, next_meta, timed_then, begin_program, read_at, read_inside, writes_of, has_writes, tablets_used, read_command, write_command, commit_command, abort_command, if_closed, command_program}
 use Rattle.txn_types.specs.Run.{Mover, MayStart, program_of}
+use Rattle.txn_types.specs.Reads.{open_txn}
 use Rattle.txn_types.specs.Cause.{is_strict, wrote_or_read}
-use Rattle.txn_promises.specs.Leaves.{is_write, is_read, is_single, is_end, open_id}
+use Rattle.txn_promises.specs.Lines.{is_write, is_abort_line, is_read, is_single}
 use Rattle.law_heard.proofs.Heeds.{Heeds}
-use Rattle.law_heard.proofs.Means.{IsAsked, Means}
+use Rattle.law_heard.proofs.Means.{IsAsked, Closes, Means}
 use Rattle.law_heard.proofs.Programs.{OfRead, told_read, begin_heeds, write_heeds, single_heeds, commit_heeds, end_heeds, restart_heeds, pass_heeds}
 
 -- the line may not restart, over what is kept at its start
@@ -34,7 +35,7 @@ abbrev pub Stops : Keeps → Command → Type 0
 Stops s line = (is_strict (Some line) ≡ true) ⊎ (wrote_or_read s.opened ≡ true)
 
 abbrev pub LineHeeds : Keeps → Command → Program Told → Type 0
-LineHeeds s line p = Heeds (IsAsked (Some line) s.opened) (Means (is_write (Some line)) (Stops s line)) p
+LineHeeds s line p = Heeds (IsAsked (Some line) s.opened) (Closes (is_write (Some line))) (Means (is_write (Some line)) (Stops s line)) p
 
 -- ## reads
 
@@ -73,14 +74,14 @@ stops_inside s line strict x is said stops = elim stops [
   ]
 ]
 
-timed_heeds : (P : Actor → Request → Type 0) (W : Actor → Request → Reply → Told → Type 0) (i n : ℕ) (next : ℕ → Program Told) (r : Result ℕ TimeRefusal) → ((now : ℕ) → Heeds P W (next now)) → Heeds P W (timed_then i n next r)
-timed_heeds P W i n next (Ok now) goes = goes now
-timed_heeds P W i n next (Err why) goes = tt
+timed_heeds : (P C : Actor → Request → Type 0) (W : Actor → Request → Reply → Told → Type 0) (i n : ℕ) (next : ℕ → Program Told) (r : Result ℕ TimeRefusal) → ((now : ℕ) → Heeds P C W (next now)) → Heeds P C W (timed_then i n next r)
+timed_heeds P C W i n next (Ok now) goes = goes now
+timed_heeds P C W i n next (Err why) goes = tt
 
 read_line : (config : Config) (i : ℕ) (s : Keeps) (line : Command) (kind : ReadKind) (strict : Bool) (places : List Place) (o : Option Opened) → s.opened ≡ o → is_strict (Some line) ≡ strict → is_read (Some line) ≡ true →
     LineHeeds s line (read_command config i s kind strict places o)
 read_line config i s line kind strict places None is said reads = λ n.
-    timed_heeds (IsAsked (Some line) s.opened) (Means (is_write (Some line)) (Stops s line)) i n (read_at config kind strict places n) (least_time s.last 0 n)
+    timed_heeds (IsAsked (Some line) s.opened) (Closes (is_write (Some line))) (Means (is_write (Some line)) (Stops s line)) i n (read_at config kind strict places n) (least_time s.last 0 n)
     (λ now. told_read (IsAsked (Some line) s.opened) (is_write (Some line)) (Stops s line) None kind places now (max now (limit_time n config.skew_us)) strict [] [] (stops_outside s line strict is said) (read_kinds s line reads))
 read_line config i s line kind strict places (Some x) is said reads = doubt x.in_doubt
   where
@@ -90,8 +91,8 @@ read_line config i s line kind strict places (Some x) is said reads = doubt x.in
 
 -- ## the others
 
-open_is : (s : Keeps) (x : Opened) → s.opened ≡ Some x → open_id s.opened ≡ Some x.meta.txn
-open_is s x is = ap open_id is
+open_is : (s : Keeps) (x : Opened) → s.opened ≡ Some x → open_txn s.opened ≡ Some x.meta.txn
+open_is s x is = ap open_txn is
 
 write_line : (s : Keeps) (line : Command) (place : Place) (o : Op) (opened : Option Opened) → s.opened ≡ opened → is_write (Some line) ≡ true → LineHeeds s line (write_command s place o opened)
 write_line s line place o None is writes = tt
@@ -99,20 +100,20 @@ write_line s line place o (Some x) is writes = doubt x.in_doubt
   where
     doubt : (b : Bool) → LineHeeds s line (if b then refused told_refusal.InDoubt else txn_program (step.Write x.meta (length x.writes) place o x.r s.last))
     doubt true = tt
-    doubt false = write_heeds (IsAsked (Some line) s.opened) (is_write (Some line)) (Stops s line) x.meta (length x.writes) place o x.r s.last writes (inl writes) (λ j y. inl writes) (λ fates. (tt, writes)) (inl writes, open_is s x is)
+    doubt false = write_heeds (IsAsked (Some line) s.opened) (is_write (Some line)) (Stops s line) x.meta (length x.writes) place o x.r s.last writes (inl writes) (λ j y. inl writes) (λ fates. (tt, writes, open_is s x is)) (inl writes, open_is s x is)
 
 commit_line : (s : Keeps) (opened : Option Opened) → s.opened ≡ opened → LineHeeds s command.Commit (commit_command s opened)
 commit_line s None is = tt
 commit_line s (Some x) is = commit_heeds (IsAsked (Some command.Commit) s.opened) false (Stops s command.Commit) x.meta s.last (tablets_used [] x.writes) (refl, open_is s x is)
 
-end_line : (s : Keeps) (line : Command) (opened : Option Opened) → s.opened ≡ opened → is_end (Some line) ≡ true → is_write (Some line) ≡ false → LineHeeds s line (abort_command opened)
+end_line : (s : Keeps) (line : Command) (opened : Option Opened) → s.opened ≡ opened → is_abort_line (Some line) ≡ true → is_write (Some line) ≡ false → LineHeeds s line (abort_command opened)
 end_line s line None is ends not = tt
 end_line s line (Some x) is ends not = end_heeds (IsAsked (Some line) s.opened) (is_write (Some line)) (Stops s line) x.meta not (inr ends, open_is s x is)
 
 begin_line : (config : Config) (i : ℕ) (s : Keeps) (priority : ℕ) (opened : Option Opened) → LineHeeds s (command.Begin priority) (if_closed opened (begin_program config i s priority))
 begin_line config i s priority (Some x) = tt
 begin_line config i s priority None = λ n.
-    timed_heeds (IsAsked (Some (command.Begin priority)) s.opened) (Means false (Stops s (command.Begin priority))) i n (λ now. txn_program (step.Begin (next_meta config i s priority) now)) (least_time s.last 0 n)
+    timed_heeds (IsAsked (Some (command.Begin priority)) s.opened) (Closes false) (Means false (Stops s (command.Begin priority))) i n (λ now. txn_program (step.Begin (next_meta config i s priority) now)) (least_time s.last 0 n)
     (λ now. begin_heeds (IsAsked (Some (command.Begin priority)) s.opened) false (Stops s (command.Begin priority)) (next_meta config i s priority) now refl)
 
 single_line : (config : Config) (i : ℕ) (s : Keeps) (line : Command) (priority : ℕ) (place : Place) (o : Op) (opened : Option Opened) → is_single (Some line) ≡ true → LineHeeds s line (if_closed opened (txn_program (step.Single (next_meta config i s priority) place o s.last)))

@@ -15,6 +15,7 @@ use Rattle.txn_data.specs.declared.read_kind.ReadKind.{ReadKind}
 use Rattle.txn_data.specs.declared.tablet_limit.TabletLimit.{TabletLimit}
 use Rattle.txn_data.specs.declared.request.Request.{Request}
 use Rattle.txn_data.specs.declared.request.Request.TheVariants as request
+use Rattle.txn_data.specs.declared.refusal.Refusal.{Refusal}
 use Rattle.txn_data.specs.declared.reply.Reply.{Reply}
 use Rattle.txn_data.specs.declared.reply.Reply.TheVariants as reply
 use Rattle.txn_data.specs.declared.read_end.ReadEnd.{ReadEnd}
@@ -30,8 +31,8 @@ use Rattle.txn_types.specs.ReadProgram.{Asked, Progress, read_refused, ask_fates
 use Rattle.txn_types.specs.TxnProgram.{refused, lost, abort_after, write_refused, resolve_all, find_others, txn_program}
 use Rattle.txn_types.specs.PassProgram.{Counts, apply_then, clean_then, pass_over, pass_program}
 use Rattle.txn_types.specs.Session.{read_told, restart_program}
-use Rattle.law_heard.proofs.Heeds.{ComesTo, Heeds, any, then_heeds}
-use Rattle.law_heard.proofs.Means.{Means}
+use Rattle.law_heard.proofs.Heeds.{ComesTo, Asking, Heeds, any, then_heeds}
+use Rattle.law_heard.proofs.Means.{shuts, Closes, Means}
 
 -- ## reads
 
@@ -42,6 +43,10 @@ OfRead to (request.AskFate x t) = Unit {0}
 OfRead to (request.Collect own_txn kind paths t window fates) = Unit {0}
 OfRead to asked = ⊥
 
+-- once it is refused it asks no more
+abbrev pub Never : Actor → Request → Type 0
+Never to asked = ⊥
+
 abbrev pub ReadMeans : Bool → Actor → Request → Reply → ReadEnd → Type 0
 ReadMeans strict to asked (reply.Refused r) end = end.what ≡ what.Refused (refusal_told to r)
 ReadMeans strict to (request.Collect own_txn kind paths t (Some window) fates) (reply.Met at path) end = strict ≡ true → end.what ≡ what.Restart at path
@@ -49,9 +54,9 @@ ReadMeans strict to asked r end = Unit {0}
 
 module _ (strict : Bool) where
   abbrev Reading : Program ReadEnd → Type 0
-  Reading p = Heeds OfRead (ReadMeans strict) p
+  Reading p = Heeds OfRead Never (ReadMeans strict) p
 
-  fates_heed : (s : Progress) (fs : List Found) (fates : List FateOf) (next : List FateOf → Program ReadEnd) → ((all : List FateOf) → Heeds OfRead (ReadMeans strict) (next all)) → Heeds OfRead (ReadMeans strict) (ask_fates s fs fates next)
+  fates_heed : (s : Progress) (fs : List Found) (fates : List FateOf) (next : List FateOf → Program ReadEnd) → ((all : List FateOf) → Heeds OfRead Never (ReadMeans strict) (next all)) → Heeds OfRead Never (ReadMeans strict) (ask_fates s fs fates next)
   unfolding ask_fates
   fates_heed s [] fates next goes = goes fates
   fates_heed s (f ∷ fs) fates next goes = (
@@ -61,22 +66,25 @@ module _ (strict : Bool) where
       | reply.Refused r ↦ (refl, tt)
       | _ ↦ (tt, tt)
     ],
+    λ w. tt,
   )
 
   visit_heeds : (a : Asked) (s : Progress) (windowed : Bool) (k : ℕ) (next : Progress → Reply → Program ReadEnd) →
       ((seen : Progress) (g limit : ℕ) (fates : List FateOf) (r : Reply) →
-      ComesTo (ReadMeans strict (Tablet k) (request.Collect a.own_txn a.kind (paths_on k a.places) s.t (window_of windowed g limit) fates) r) (next seen r) × Heeds OfRead (ReadMeans strict) (next seen r)) →
-      Heeds OfRead (ReadMeans strict) (visit a s windowed k next)
-  visit_heeds a s windowed k next goes = (
+      ComesTo (ReadMeans strict (Tablet k) (request.Collect a.own_txn a.kind (paths_on k a.places) s.t (window_of windowed g limit) fates) r) (next seen r) × Heeds OfRead Never (ReadMeans strict) (next seen r)) →
+      ((seen : Progress) (w : Refusal) → Asking Never (next seen (reply.Refused w))) →
+      Heeds OfRead Never (ReadMeans strict) (visit a s windowed k next)
+  visit_heeds a s windowed k next goes ends = (
     tt,
     elim [
       | reply.Listed limit others ↦ (
         any (λ end. Unit {0}) (λ end. tt) (ask_fates (record s { limits = with_limit k limit s.limits }) others [] _),
-        fates_heed (record s { limits = with_limit k limit s.limits }) others [] _ (λ fates. (tt, λ r. goes (record s { limits = with_limit k limit s.limits }) a.g (fixed k limit s.limits) fates r)),
+        fates_heed (record s { limits = with_limit k limit s.limits }) others [] _ (λ fates. (tt, λ r. goes (record s { limits = with_limit k limit s.limits }) a.g (fixed k limit s.limits) fates r, λ w. ends (record s { limits = with_limit k limit s.limits }) w)),
       )
       | reply.Refused r ↦ (refl, tt)
       | _ ↦ (tt, tt)
     ],
+    λ w. tt,
   )
 
   abbrev two_next : Asked → ℕ → List ℕ → Progress → Reply → Program ReadEnd
@@ -86,7 +94,7 @@ module _ (strict : Bool) where
     | _ ↦ read_refused told_refusal.Memory seen
   ]
 
-  two_heeds : (a : Asked) (s : Progress) (ks : List ℕ) → Heeds OfRead (ReadMeans strict) (round_two a s ks)
+  two_heeds : (a : Asked) (s : Progress) (ks : List ℕ) → Heeds OfRead Never (ReadMeans strict) (round_two a s ks)
   unfolding round_two
   two_heeds a s [] = tt
   two_heeds a s (k ∷ ks) = visit_heeds a s false k (two_next a k ks)
@@ -95,8 +103,9 @@ module _ (strict : Bool) where
         | reply.Refused r ↦ (refl, tt)
         | _ ↦ (tt, tt)
       ])
+      (λ seen w. tt)
 
-  done_heeds : (b : Bool) (a : Asked) (s : Progress) → Heeds OfRead (ReadMeans strict) (if b then read_done a s else round_two a (record s { found = [] }) (tablets_of a.places))
+  done_heeds : (b : Bool) (a : Asked) (s : Progress) → Heeds OfRead Never (ReadMeans strict) (if b then read_done a s else round_two a (record s { found = [] }) (tablets_of a.places))
   done_heeds true a s = tt
   done_heeds false a s = two_heeds a (record s { found = [] }) (tablets_of a.places)
 
@@ -104,7 +113,7 @@ module _ (strict : Bool) where
   met_comes true at path s next is = λ closes. refl
   met_comes false at path s next is = any (λ end. strict ≡ true → end.what ≡ what.Restart at path) (λ end closes. cc) next
 
-  met_heeds : (b : Bool) (at : ℕ) (path : Parts) (s : Progress) (next : Program ReadEnd) → Heeds OfRead (ReadMeans strict) next → Heeds OfRead (ReadMeans strict) (met_then b (what.Restart at path) s next)
+  met_heeds : (b : Bool) (at : ℕ) (path : Parts) (s : Progress) (next : Program ReadEnd) → Heeds OfRead Never (ReadMeans strict) next → Heeds OfRead Never (ReadMeans strict) (met_then b (what.Restart at path) s next)
   met_heeds true at path s next goes = tt
   met_heeds false at path s next goes = goes
 
@@ -116,7 +125,7 @@ module _ (strict : Bool) where
     | _ ↦ read_refused told_refusal.Memory seen
   ]
 
-  one_heeds : (a : Asked) (s : Progress) (ks : List ℕ) → strict ≡ a.strict → Heeds OfRead (ReadMeans strict) (round_one a s ks)
+  one_heeds : (a : Asked) (s : Progress) (ks : List ℕ) → strict ≡ a.strict → Heeds OfRead Never (ReadMeans strict) (round_one a s ks)
   unfolding round_one
   one_heeds a s [] is = done_heeds (nat_eq s.restarts 0) a s
   one_heeds a s (k ∷ ks) is = visit_heeds a s true k (one_next a k ks)
@@ -126,13 +135,14 @@ module _ (strict : Bool) where
         | reply.Refused r ↦ (refl, tt)
         | _ ↦ (tt, tt)
       ])
+      (λ seen w. tt)
 
-  pub read_heeds : (own_txn : Option ℕ) (kind : ReadKind) (places : List Place) (t g : ℕ) (limits : List TabletLimit) → Heeds OfRead (ReadMeans strict) (read_program own_txn kind places t g strict limits)
+  pub read_heeds : (own_txn : Option ℕ) (kind : ReadKind) (places : List Place) (t g : ℕ) (limits : List TabletLimit) → Heeds OfRead Never (ReadMeans strict) (read_program own_txn kind places t g strict limits)
   read_heeds own_txn kind places t g limits = one_heeds (record { own_txn = own_txn; kind = kind; places = places; g = g; strict = strict }) _ (tablets_of places) refl
 
 module _ (P : Actor → Request → Type 0) (closing : Bool) (Stops : Type 0) where
   abbrev pub Line : Program Told → Type 0
-  Line p = Heeds P (Means closing Stops) p
+  Line p = Heeds P (Closes closing) (Means closing Stops) p
 
   -- what a session tells of a read
   told_values : (kind : ReadKind) (ws : List Written) (places : List Place) (end : ReadEnd) (w : ReadWhat) → end.what ≡ w → read_told kind ws places end ≡ read_told kind ws places (record end { what = w })
@@ -156,9 +166,9 @@ module _ (P : Actor → Request → Type 0) (closing : Bool) (Stops : Type 0) wh
   read_means strict kind ws places stops to asked r end of is = absurd of
 
   pub told_read : (own_txn : Option ℕ) (kind : ReadKind) (places : List Place) (t g : ℕ) (strict : Bool) (ws : List Written) (limits : List TabletLimit) → (Stops → strict ≡ true) → ((to : Actor) (asked : Request) → OfRead to asked → P to asked) →
-      Heeds P (Means closing Stops) (then_do (read_program own_txn kind places t g strict limits) (λ end. Done (read_told kind ws places end)))
+      Heeds P (Closes closing) (Means closing Stops) (then_do (read_program own_txn kind places t g strict limits) (λ end. Done (read_told kind ws places end)))
   told_read own_txn kind places t g strict ws limits stops kinds =
-      then_heeds OfRead P (ReadMeans strict) (Means closing Stops) (read_told kind ws places) kinds (read_means strict kind ws places stops) (read_program own_txn kind places t g strict limits) (read_heeds strict own_txn kind places t g limits)
+      then_heeds OfRead P Never (Closes closing) (ReadMeans strict) (Means closing Stops) (read_told kind ws places) kinds (λ to asked none. absurd none) (read_means strict kind ws places stops) (read_program own_txn kind places t g strict limits) (read_heeds strict own_txn kind places t g limits)
 
   -- ## writes
 
@@ -180,13 +190,13 @@ module _ (P : Actor → Request → Type 0) (closing : Bool) (Stops : Type 0) wh
   abort_comes meta told_refusal.InDoubt = refl
   abort_comes meta told_refusal.Memory = refl
 
-  closing_heeds : (meta : Meta) (w : ToldRefusal) → closing ≡ true → P (Status meta.status) (request.Abort meta.txn) → Heeds P (Means closing Stops) (abort_after meta w)
-  closing_heeds meta w closes asks = (asks, elim [ reply.Refused r ↦ (rw closes tt, tt) | _ ↦ (tt, tt) ])
+  closing_heeds : (meta : Meta) (w : ToldRefusal) → shuts w ≡ true → closing ≡ true → P (Status meta.status) (request.Abort meta.txn) → Heeds P (Closes closing) (Means closing Stops) (abort_after meta w)
+  closing_heeds meta w shut closes asks = (asks, elim [ reply.Refused r ↦ (rw closes (w, refl, shut), tt) | _ ↦ (rw closes (w, refl, shut), tt) ], λ v. tt)
 
-  abort_heeds : (meta : Meta) (w : ToldRefusal) → closing ≡ true → P (Status meta.status) (request.Abort meta.txn) → Heeds P (Means closing Stops) (write_refused meta w)
-  abort_heeds meta (told_refusal.Conflict other) closes asks = closing_heeds meta (told_refusal.Conflict other) closes asks
-  abort_heeds meta (told_refusal.Overlap at) closes asks = closing_heeds meta (told_refusal.Overlap at) closes asks
-  abort_heeds meta (told_refusal.LogFault actor) closes asks = closing_heeds meta (told_refusal.LogFault actor) closes asks
+  abort_heeds : (meta : Meta) (w : ToldRefusal) → closing ≡ true → P (Status meta.status) (request.Abort meta.txn) → Heeds P (Closes closing) (Means closing Stops) (write_refused meta w)
+  abort_heeds meta (told_refusal.Conflict other) closes asks = closing_heeds meta (told_refusal.Conflict other) refl closes asks
+  abort_heeds meta (told_refusal.Overlap at) closes asks = closing_heeds meta (told_refusal.Overlap at) refl closes asks
+  abort_heeds meta (told_refusal.LogFault actor) closes asks = closing_heeds meta (told_refusal.LogFault actor) refl closes asks
   abort_heeds meta (told_refusal.Aborted by) closes asks = tt
   abort_heeds meta (told_refusal.Restart at path) closes asks = tt
   abort_heeds meta (told_refusal.LeaseHeld a until) closes asks = tt
@@ -198,63 +208,80 @@ module _ (P : Actor → Request → Type 0) (closing : Bool) (Stops : Type 0) wh
   abort_heeds meta told_refusal.InDoubt closes asks = tt
   abort_heeds meta told_refusal.Memory closes asks = tt
 
+  abort_asks : (meta : Meta) (w : ToldRefusal) → closing ≡ true → Asking (Closes closing) (write_refused meta w)
+  abort_asks meta (told_refusal.Conflict other) closes = (closes, λ r. tt)
+  abort_asks meta (told_refusal.Overlap at) closes = (closes, λ r. tt)
+  abort_asks meta (told_refusal.LogFault actor) closes = (closes, λ r. tt)
+  abort_asks meta w closes = tt
+
   -- what ends a write, for a refusal
   abbrev Stopping : (ToldRefusal → Program Told) → Type 0
-  Stopping stop = (w : ToldRefusal) → ComesTo (λ t. t ≡ told.Refused w) (stop w) × Heeds P (Means closing Stops) (stop w)
+  Stopping stop = (w : ToldRefusal) → ComesTo (λ t. t ≡ told.Refused w) (stop w) × Heeds P (Closes closing) (Means closing Stops) (stop w) × Asking (Closes closing) (stop w)
+
+  -- by a refusal that was heard
+  abbrev Halted : Program Told → ToldRefusal → Type 0
+  Halted p w = ComesTo (λ t. t ≡ told.Refused w) p × Heeds P (Closes closing) (Means closing Stops) p
+
+  halted : (stop : ToldRefusal → Program Told) → Stopping stop → (w : ToldRefusal) → Halted (stop w) w
+  halted stop stops w = ((stops w).0, (stops w).1)
 
   resolve_heeds : (meta : Meta) (fs : List Found) (fates : List FateOf) (stop : ToldRefusal → Program Told) (next : List FateOf → Program Told) → ((j x : ℕ) → P (Status j) (request.Resolve x meta.txn meta.priority)) → Stopping stop →
-      ((given : List FateOf) → Heeds P (Means closing Stops) (next given)) → Heeds P (Means closing Stops) (resolve_all meta fs fates stop next)
+      ((given : List FateOf) → Heeds P (Closes closing) (Means closing Stops) (next given)) → Heeds P (Closes closing) (Means closing Stops) (resolve_all meta fs fates stop next)
   unfolding resolve_all
   resolve_heeds meta [] fates stop next asks stops goes = goes fates
   resolve_heeds meta (f ∷ fs) fates stop next asks stops goes =
       let rest : Fate → Program Told = λ given. resolve_all meta fs (fates ++ (record { txn = f.txn; fate = given }) ∷ []) stop next in
-      let more : (given : Fate) → ComesTo (λ t. Unit {0}) (rest given) × Heeds P (Means closing Stops) (rest given) = λ given. (any (λ t. Unit {0}) (λ t. tt) (rest given), resolve_heeds meta fs (fates ++ (record { txn = f.txn; fate = given }) ∷ []) stop next asks stops goes) in (
+      let more : (given : Fate) → ComesTo (λ t. Unit {0}) (rest given) × Heeds P (Closes closing) (Means closing Stops) (rest given) = λ given. (any (λ t. Unit {0}) (λ t. tt) (rest given), resolve_heeds meta fs (fates ++ (record { txn = f.txn; fate = given }) ∷ []) stop next asks stops goes) in (
         asks f.status f.txn,
         elim [
-          | reply.FateIs fate.Pending ↦ stops (told_refusal.Conflict f.txn)
+          | reply.FateIs fate.Pending ↦ halted stop stops (told_refusal.Conflict f.txn)
           | reply.FateIs (fate.Committed at) ↦ more (fate.Committed at)
           | reply.FateIs fate.Aborted ↦ more fate.Aborted
           | reply.FateIs fate.Absent ↦ more fate.Absent
-          | reply.Refused r ↦ stops (refusal_told (Status f.status) r)
+          | reply.Refused r ↦ halted stop stops (refusal_told (Status f.status) r)
           | _ ↦ (tt, tt)
         ],
+        λ w. (stops (refusal_told (Status f.status) w)).2,
       )
 
   others_heed : (meta : Meta) (place : Place) (stop : ToldRefusal → Program Told) (next : List FateOf → Program Told) → P (Tablet place.tablet) (request.ListWrite meta.txn place.path) → ((j x : ℕ) → P (Status j) (request.Resolve x meta.txn meta.priority)) → Stopping stop →
-      ((given : List FateOf) → Heeds P (Means closing Stops) (next given)) → Heeds P (Means closing Stops) (find_others meta place stop next)
+      ((given : List FateOf) → Heeds P (Closes closing) (Means closing Stops) (next given)) → Heeds P (Closes closing) (Means closing Stops) (find_others meta place stop next)
   others_heed meta place stop next lists asks stops goes = (
     lists,
     elim [
       | reply.Others found ↦ (any (λ t. Unit {0}) (λ t. tt) (resolve_all meta found [] stop next), resolve_heeds meta found [] stop next asks stops goes)
-      | reply.Refused r ↦ stops (refusal_told (Tablet place.tablet) r)
+      | reply.Refused r ↦ halted stop stops (refusal_told (Tablet place.tablet) r)
       | _ ↦ (tt, tt)
     ],
+    λ w. (stops (refusal_told (Tablet place.tablet) w)).2,
   )
 
-  pub begin_heeds : (meta : Meta) (r : ℕ) → P (Status meta.status) (request.Begin meta.txn meta.isolation meta.priority) → Heeds P (Means closing Stops) (txn_program (step.Begin meta r))
-  begin_heeds meta r asks = (asks, elim [ reply.Begun ↦ (λ w is. cc, tt) | reply.Refused why ↦ (refl, tt) | _ ↦ (tt, tt) ])
+  pub begin_heeds : (meta : Meta) (r : ℕ) → P (Status meta.status) (request.Begin meta.txn meta.isolation meta.priority) → Heeds P (Closes closing) (Means closing Stops) (txn_program (step.Begin meta r))
+  begin_heeds meta r asks = (asks, elim [ reply.Begun ↦ (λ w is. cc, tt) | reply.Refused why ↦ (refl, tt) | _ ↦ (tt, tt) ], λ w. tt)
 
   pub write_heeds : (meta : Meta) (number : ℕ) (place : Place) (op : Op) (read seen : ℕ) → closing ≡ true → P (Tablet place.tablet) (request.ListWrite meta.txn place.path) → ((j x : ℕ) → P (Status j) (request.Resolve x meta.txn meta.priority)) →
-      ((fates : List FateOf) → P (Tablet place.tablet) (request.Write meta number place.path op read seen fates)) → P (Status meta.status) (request.Abort meta.txn) → Heeds P (Means closing Stops) (txn_program (step.Write meta number place op read seen))
+      ((fates : List FateOf) → P (Tablet place.tablet) (request.Write meta number place.path op read seen fates)) → P (Status meta.status) (request.Abort meta.txn) → Heeds P (Closes closing) (Means closing Stops) (txn_program (step.Write meta number place op read seen))
   write_heeds meta number place op read seen closes lists asks writes aborts =
-      let stops : Stopping (write_refused meta) = λ w. (abort_comes meta w, abort_heeds meta w closes aborts) in
+      let stops : Stopping (write_refused meta) = λ w. (abort_comes meta w, abort_heeds meta w closes aborts, abort_asks meta w closes) in
       others_heed meta place (write_refused meta) _ lists asks stops (λ fates. (
         writes fates,
         elim [
           | reply.Written at ↦ (λ w is. cc, tt)
-          | reply.Refused r ↦ stops (refusal_told (Tablet place.tablet) r)
+          | reply.Refused r ↦ halted (write_refused meta) stops (refusal_told (Tablet place.tablet) r)
           | _ ↦ (tt, tt)
         ],
+        λ w. (stops (refusal_told (Tablet place.tablet) w)).2,
       ))
 
   pub single_heeds : (meta : Meta) (place : Place) (op : Op) (seen : ℕ) → P (Tablet place.tablet) (request.ListWrite meta.txn place.path) → ((j x : ℕ) → P (Status j) (request.Resolve x meta.txn meta.priority)) →
-      ((fates : List FateOf) → P (Tablet place.tablet) (request.Single meta.txn place.path op seen fates)) → Heeds P (Means closing Stops) (txn_program (step.Single meta place op seen))
-  single_heeds meta place op seen lists asks writes = others_heed meta place refused _ lists asks (λ w. (refl, tt)) (λ fates. (
+      ((fates : List FateOf) → P (Tablet place.tablet) (request.Single meta.txn place.path op seen fates)) → Heeds P (Closes closing) (Means closing Stops) (txn_program (step.Single meta place op seen))
+  single_heeds meta place op seen lists asks writes = others_heed meta place refused _ lists asks (λ w. (refl, tt, tt)) (λ fates. (
     writes fates,
     elim [ reply.SingleDone at ↦ (λ w is. cc, tt) | reply.Refused r ↦ (refl, tt) | _ ↦ (refl, tt) ],
+    λ w. tt,
   ))
 
-  pub commit_heeds : (meta : Meta) (floor : ℕ) (tablets : List ℕ) → P (Status meta.status) (request.Commit meta.txn floor tablets) → Heeds P (Means closing Stops) (txn_program (step.Commit meta floor tablets))
+  pub commit_heeds : (meta : Meta) (floor : ℕ) (tablets : List ℕ) → P (Status meta.status) (request.Commit meta.txn floor tablets) → Heeds P (Closes closing) (Means closing Stops) (txn_program (step.Commit meta floor tablets))
   commit_heeds meta floor tablets asks = (
     asks,
     elim [
@@ -264,21 +291,23 @@ module _ (P : Actor → Request → Type 0) (closing : Bool) (Stops : Type 0) wh
       | reply.Refused r ↦ (refl, tt)
       | _ ↦ (tt, tt)
     ],
+    λ w. tt,
   )
 
-  pub end_heeds : (meta : Meta) → closing ≡ false → P (Status meta.status) (request.Abort meta.txn) → Heeds P (Means closing Stops) (txn_program (step.Abort meta))
+  pub end_heeds : (meta : Meta) → closing ≡ false → P (Status meta.status) (request.Abort meta.txn) → Heeds P (Closes closing) (Means closing Stops) (txn_program (step.Abort meta))
   end_heeds meta open_end asks = (
     asks,
     elim [
-      | reply.Ended ↦ (tt, tt)
-      | reply.Committed at ↦ (tt, tt)
+      | reply.Ended ↦ (rw open_end (λ w is. cc), tt)
+      | reply.Committed at ↦ (rw open_end (λ w is. cc), tt)
       | reply.Refused r ↦ (rw open_end refl, tt)
-      | _ ↦ (tt, tt)
+      | _ ↦ (rw open_end tt, tt)
     ],
+    λ w. tt,
   )
 
-  pub restart_heeds : (a : Actor) → P a request.Restart → Heeds P (Means closing Stops) (restart_program a)
-  restart_heeds a asks = (asks, elim [ reply.Restarted kept ↦ (λ w is. cc, tt) | reply.Refused r ↦ (refl, tt) | _ ↦ (tt, tt) ])
+  pub restart_heeds : (a : Actor) → P a request.Restart → Heeds P (Closes closing) (Means closing Stops) (restart_program a)
+  restart_heeds a asks = (asks, elim [ reply.Restarted kept ↦ (λ w is. cc, tt) | reply.Refused r ↦ (refl, tt) | _ ↦ (tt, tt) ], λ w. tt)
 
   -- ## passes
 
@@ -297,7 +326,7 @@ module _ (P : Actor → Request → Type 0) (closing : Bool) (Stops : Type 0) wh
     | _ ↦ lost
   ])
 
-  apply_heeds : (k : ℕ) → OfPass k → (f : Found) (c : ℕ) (next : Program Told) → Heeds P (Means closing Stops) next → Heeds P (Means closing Stops) (apply_then k f c next)
+  apply_heeds : (k : ℕ) → OfPass k → (f : Found) (c : ℕ) (next : Program Told) → Heeds P (Closes closing) (Means closing Stops) next → Heeds P (Closes closing) (Means closing Stops) (apply_then k f c next)
   apply_heeds k of f c next goes = (
     of.applies f.txn c,
     elim [
@@ -310,14 +339,16 @@ module _ (P : Actor → Request → Type 0) (closing : Bool) (Stops : Type 0) wh
             | reply.Refused r ↦ (refl, tt)
             | _ ↦ (tt, tt)
           ],
+          λ w. tt,
         ),
       )
       | reply.Refused r ↦ (refl, tt)
       | _ ↦ (tt, tt)
     ],
+    λ w. tt,
   )
 
-  clean_heeds : (k : ℕ) → OfPass k → (f : Found) (next : Program Told) → Heeds P (Means closing Stops) next → Heeds P (Means closing Stops) (clean_then k f next)
+  clean_heeds : (k : ℕ) → OfPass k → (f : Found) (next : Program Told) → Heeds P (Closes closing) (Means closing Stops) next → Heeds P (Closes closing) (Means closing Stops) (clean_then k f next)
   clean_heeds k of f next goes = (
     of.cleans f.txn,
     elim [
@@ -325,15 +356,16 @@ module _ (P : Actor → Request → Type 0) (closing : Bool) (Stops : Type 0) wh
       | reply.Refused r ↦ (refl, tt)
       | _ ↦ (tt, tt)
     ],
+    λ w. tt,
   )
 
-  over_heeds : (k : ℕ) → OfPass k → (n : Counts) (fs : List Found) → Heeds P (Means closing Stops) (pass_over k n fs)
+  over_heeds : (k : ℕ) → OfPass k → (n : Counts) (fs : List Found) → Heeds P (Closes closing) (Means closing Stops) (pass_over k n fs)
   unfolding pass_over
   over_heeds k of n [] = tt
   over_heeds k of n (f ∷ fs) =
-      let left : Heeds P (Means closing Stops) (pass_over k (record n { left = n.left + 1 }) fs) = over_heeds k of (record n { left = n.left + 1 }) fs in
-      let applied : Heeds P (Means closing Stops) (pass_over k (record n { applied = n.applied + 1 }) fs) = over_heeds k of (record n { applied = n.applied + 1 }) fs in
-      let cleaned : Heeds P (Means closing Stops) (pass_over k (record n { cleaned = n.cleaned + 1 }) fs) = over_heeds k of (record n { cleaned = n.cleaned + 1 }) fs in (
+      let left : Heeds P (Closes closing) (Means closing Stops) (pass_over k (record n { left = n.left + 1 }) fs) = over_heeds k of (record n { left = n.left + 1 }) fs in
+      let applied : Heeds P (Closes closing) (Means closing Stops) (pass_over k (record n { applied = n.applied + 1 }) fs) = over_heeds k of (record n { applied = n.applied + 1 }) fs in
+      let cleaned : Heeds P (Closes closing) (Means closing Stops) (pass_over k (record n { cleaned = n.cleaned + 1 }) fs) = over_heeds k of (record n { cleaned = n.cleaned + 1 }) fs in (
         of.asks f.status f.txn,
         elim [
           | reply.FateIs fate.Pending ↦ (any (λ t. Unit {0}) (λ t. tt) (pass_over k (record n { left = n.left + 1 }) fs), left)
@@ -352,9 +384,10 @@ module _ (P : Actor → Request → Type 0) (closing : Bool) (Stops : Type 0) wh
           | reply.Refused r ↦ (refl, tt)
           | _ ↦ (tt, tt)
         ],
+        λ w. tt,
       )
 
-  pub pass_heeds : (k : ℕ) → OfPass k → Heeds P (Means closing Stops) (pass_program k)
+  pub pass_heeds : (k : ℕ) → OfPass k → Heeds P (Closes closing) (Means closing Stops) (pass_program k)
   pass_heeds k of = (
     of.lists,
     elim [
@@ -362,4 +395,5 @@ module _ (P : Actor → Request → Type 0) (closing : Bool) (Stops : Type 0) wh
       | reply.Refused r ↦ (refl, tt)
       | _ ↦ (tt, tt)
     ],
+    λ w. tt,
   )

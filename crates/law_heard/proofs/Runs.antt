@@ -1,5 +1,5 @@
 -- What is heard decides what is told, in every run.
-use Rattle.std.proofs.Common.{◌≡◌, ℕ, ◌≤◌, Bool, true, false, ◌&&◌, not, List, Option, Some, None, reverse, refl, sym, ◌∙◌, subst, inl, inr, ◌⊎◌}
+use Rattle.std.proofs.Common.{◌≡◌, ℕ, ◌≤◌, Bool, true, false, ◌&&◌, not, List, ◌∷◌, ◌++◌, Option, Some, None, reverse, refl, sym, ◌∙◌, subst, inl, inr, ◌⊎◌}
 use Rattle.doc_path.specs.Path.{Parts}
 use Rattle.txn_data.specs.declared.actor.Actor.{Actor}
 use Rattle.txn_data.specs.declared.actor.Actor.TheVariants.{Tablet, Status, Session, Applier}
@@ -27,9 +27,9 @@ use Rattle.txn_types.specs.Status as status
 use Rattle.txn_types.specs.Status.{record_of}
 use Rattle.txn_types.specs.Run.{Run, Serves, mover_at, may_lose_after, is_settling}
 use Rattle.txn_types.specs.Tablet.{first_of}
-use Rattle.txn_types.specs.Cause.{ToldAt, tells, ServedAt, served_since, own_then, newcomers, WritesFor, is_strict, wrote_or_read}
-use Rattle.txn_promises.specs.Leaves.{mover_then, is_write}
-use Rattle.txn_promises.specs.Refuses.{TellsJust, TellsOrMemory, Meets, is_abort, is_closing, MayNotRestart}
+use Rattle.txn_types.specs.Cause.{ToldAt, tells, ServedAt, served_since, own_then, newcomers, WritesFor, is_strict, wrote_or_read, MetAndStopped}
+use Rattle.txn_promises.specs.Lines.{mover_then, is_write, is_abort, is_closing, TellsJust, TellsOrMemory}
+use Rattle.txn_promises.specs.Refuses.{Meets}
 use Rattle.law_machines.proofs.Owns.{stands_member}
 use Rattle.law_owners.specs.Owner.{IsOfTable}
 use Rattle.law_owners.proofs.Runs.{requests_homed}
@@ -41,8 +41,8 @@ use Rattle.law_heard.specs.Laws.{HeardIsTold}
 use Rattle.law_heard.proofs.Heeds.{Forgot}
 use Rattle.law_heard.proofs.Means.{IsAsked, RefusalTold, Means}
 use Rattle.law_heard.proofs.Lines.{Stops}
-use Rattle.law_heard.proofs.Tables.{row_served, pending_served, aborted_served}
-use Rattle.law_heard.proofs.Shapes.{HasWindow, met_served}
+use Rattle.law_refusal_rows.proofs.Tables.{row_served, pending_served, aborted_served}
+use Rattle.law_refusal_rows.proofs.Shapes.{HasWindow, met_served}
 use Rattle.law_heard.proofs.Between.{Writes, came_between, line_settled}
 use Rattle.law_heard.proofs.Says.{Line, told_line, member_reverse}
 
@@ -92,6 +92,9 @@ module _ (config : Config) (h : History) (t : ToldAt) (run : Run config h) (here
         | inl means ↦ inl (told_plain (is_abort s.asked && closing) s.by r t.told (closing_is s not) (means_refused closing stops s.by s.asked r t.told means))
         | inr none ↦ inr none
       ])
+
+  ends : (newer older : List ServedAt) (s : ServedAt) (r : Refusal) → served_since t.who t.before ≡ newer ++ (s ∷ older) → s.reply ≡ reply.Refused r → (u : ServedAt) → Member u newer → is_closing (mover_then config t).line u.asked ≡ true
+  ends newer older s r split is u there = subst (λ (o : Option Command). is_closing o u.asked ≡ true) (sym line.is) (line.ends newer older s u r split is there)
 
   served : (s : ServedAt) → Member s (served_since t.who t.before) → Entered config t.who t.before s
   served s there = entered config t.who t.before s before.1 there
@@ -155,10 +158,13 @@ module _ (config : Config) (h : History) (t : ToldAt) (run : Run config h) (here
   met_told (request.Collect own_txn kind paths t0 (Some window) fates) by at path has stop means = means stop
   met_told q by at path has stop means = absurd has
 
-  met : (s : ServedAt) (at : ℕ) (path : Parts) → Member s (served_since t.who t.before) → s.reply ≡ reply.Met at path → MayNotRestart (mover_then config t) → TellsOrMemory t.told (why.Restart at path)
-  met s at path there is stops =
+  met : (at : ℕ) (path : Parts) → MetAndStopped config t.who t.before at path → TellsOrMemory t.told (why.Restart at path)
+  met at path stopped =
+      let s = stopped.served in
+      let there = stopped.here in
+      let is = stopped.met in
       let has = met_served config.lease_us s.by (own_then s) s.reading s.asked s.reply (served s there).time s.append at path (served s there).allowed.2 is in
-      let stop : Stops (mover_at config t.who t.before).keeps line.line = subst (λ (o : Option Command). (is_strict o ≡ true) ⊎ (wrote_or_read (mover_at config t.who t.before).keeps.opened ≡ true)) line.is stops in
+      let stop : Stops (mover_at config t.who t.before).keeps line.line = subst (λ (o : Option Command). (is_strict o ≡ true) ⊎ (wrote_or_read (mover_at config t.who t.before).keeps.opened ≡ true)) line.is stopped.stops in
       elim (says_of s s.asked (reply.Met at path) there refl is) [
         | inl means ↦ inl (met_told s.asked s.by at path has stop means)
         | inr none ↦ inr none.0
@@ -184,6 +190,7 @@ module _ (config : Config) (h : History) (t : ToldAt) (run : Run config h) (here
 pub heard_is_told : HeardIsTold
 heard_is_told config h t run here = record {
   refused = refused config h t run here;
+  ends = ends config h t run here;
   rows = rows config h t run here;
   between = between config h t run here;
   pending = pending config h t run here;

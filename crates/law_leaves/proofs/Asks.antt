@@ -1,7 +1,6 @@
 -- A commit that is served was asked by a session that commits its open transaction.
-use Rattle.std.proofs.Common.{◌≡◌, ℕ, Bool, true, false, ◌&&◌, List, [], ◌∷◌, Option, Some, None, refl, sym, ◌∙◌, ap, subst, inl, inr, ◌⊎◌, if◌then◌else◌}
+use Rattle.std.proofs.Common.{◌≡◌, ℕ, Bool, true, false, ◌&&◌, List, [], ◌∷◌, Option, Some, None, refl, sym, ◌∙◌, subst, inl, inr, ◌⊎◌}
 use Rattle.txn_data.specs.declared.actor.Actor.{Actor}
-use Rattle.txn_data.specs.declared.actor.Actor.TheVariants.{Session}
 use Rattle.txn_data.specs.declared.append.Append.{Append}
 use Rattle.txn_data.specs.declared.command.Command.{Command}
 use Rattle.txn_data.specs.declared.command.Command.TheVariants as command
@@ -15,51 +14,16 @@ use Rattle.txn_data.specs.declared.event.Event.TheVariants.{Start, Ask, Serve, H
 use Rattle.txn_data.specs.declared.entry.Entry.{Entry}
 use Rattle.txn_types.specs.Lists.{Member}
 use Rattle.txn_types.specs.History.{History, same_actor, is_start}
-use Rattle.txn_types.specs.Program.{Program, Done, Asks, Reads, heard, with_reading}
-use Rattle.txn_types.specs.Reads.{before_start}
-use Rattle.txn_types.specs.Run.{Run, Mover, MayStart, Allowed, Steps, Flight, Quiet, Asked, flight, mover_at, mover_after, program_of}
-use Rattle.txn_promises.specs.Leaves.{is_write, open_id}
+use Rattle.txn_types.specs.Program.{Program, Asks}
+use Rattle.txn_types.specs.Reads.{before_start, open_txn}
+use Rattle.txn_types.specs.Run.{Run, Allowed, Quiet, Asked, flight, mover_at, mover_after}
 use Rattle.law_machines.specs.Own.{StandsOver}
 use Rattle.law_machines.proofs.Basics.{same_cases, test_cases}
 use Rattle.law_machines.proofs.Owns.{stands_member}
 use Rattle.law_messages.proofs.Flights.{idle_quiet, asked_next}
-use Rattle.law_heard.proofs.Heeds.{Asking, heeds_asking}
-use Rattle.law_heard.proofs.Means.{IsAsked, Means}
-use Rattle.law_heard.proofs.Lines.{Stops, line_heeds}
-
-after_ask : (P : Actor → Request → Type 0) (p : Program Told) (reading : Option ℕ) → Asking P p → Asking P (with_reading p reading)
-after_ask P (Done t) reading asks = asks
-after_ask P (Asks to asked next) reading asks = asks
-after_ask P (Reads given) None asks = asks
-after_ask P (Reads given) (Some n) asks = asks n
-
-after_hear : (P : Actor → Request → Type 0) (p : Program Told) (r : Reply) → Asking P p → Asking P (heard p r)
-after_hear P (Done t) r asks = asks
-after_hear P (Asks to asked next) r asks = asks.1 r
-after_hear P (Reads given) r asks = asks
-
--- what a mover under way still asks
-abbrev AsksOn : Mover → Type 0
-AsksOn s = (line : Command) → s.line ≡ Some line → Asking (IsAsked (Some line) s.keeps.opened) s.rest
-
-own_asks : (config : Config) (h : History) (m : Actor) (s : Mover) (reading : Option ℕ) (event : Event) → mover_at config m h ≡ s → Allowed config h m reading event → AsksOn s → AsksOn (mover_after config m s reading event)
-own_asks config h m s reading (Start number line) same ok asks given is =
-    let e : line ≡ given = cc in
-    subst (λ (l : Command). Asking (IsAsked (Some l) s.keeps.opened) (program_of config m s.keeps line)) e
-    (heeds_asking (IsAsked (Some line) s.keeps.opened) (Means (is_write (Some line)) (Stops s.keeps line)) (program_of config m s.keeps line) (line_heeds config m s line (subst (λ (t : Mover). MayStart config m t line) same ok.3)))
-own_asks config h m s reading (Ask to asked) same ok asks line is = after_ask (IsAsked (Some line) s.keeps.opened) s.rest reading (asks line is)
-own_asks config h m s reading (Hear from r) same ok asks line is = after_hear (IsAsked (Some line) s.keeps.opened) s.rest r (asks line is)
-own_asks config h m s reading (Tell number t) same ok asks line is = cc
-own_asks config h m s reading (Serve from asked r time append) same ok asks line is = asks line is
-own_asks config h m s reading (Restarted from kept) same ok asks line is = asks line is
-
-asks_at : (config : Config) (m : Actor) (h : History) → Steps config h → AsksOn (mover_at config m h)
-unfolding mover_at Steps
-asks_at config m [] steps = λ line is. cc
-asks_at config m (e ∷ h) steps = elim (same_cases e.actor m) [
-  | inl same ↦ rw same.0 (own_asks config h m (mover_at config m h) e.reading e.event refl (subst (λ (a : Actor). Allowed config h a e.reading e.event) same.1 steps.1) (asks_at config m h steps.0))
-  | inr other ↦ rw other.0 (asks_at config m h steps.0)
-]
+use Rattle.law_heard.proofs.Heeds.{Asking}
+use Rattle.law_heard.proofs.Means.{IsAsked}
+use Rattle.law_asked.proofs.Asking.{asks_at}
 
 -- the mover of a request that is served asked it with its line
 asked_kind : (config : Config) (h : History) (m to : Actor) (asked : Request) (o : Option Command) → Run config h → flight m h ≡ Asked to asked → (mover_at config m h).line ≡ o → IsAsked (mover_at config m h).line (mover_at config m h).keeps.opened to asked
@@ -70,7 +34,7 @@ asked_kind config h m to asked (Some line) run flies is =
     subst (λ (l : Option Command). IsAsked l (mover_at config m h).keeps.opened to asked) (sym is) asks.0
 
 pub commit_kind : (config : Config) (h : History) (m to : Actor) (reading : Option ℕ) (x floor : ℕ) (tablets : List ℕ) (r : Reply) (time : Option ℕ) (append : Append) → Run config h → Allowed config h to reading (Serve m (request.Commit x floor tablets) r time append) →
-    ((mover_at config m h).line ≡ Some command.Commit) × (open_id (mover_at config m h).keeps.opened ≡ Some x)
+    ((mover_at config m h).line ≡ Some command.Commit) × (open_txn (mover_at config m h).keeps.opened ≡ Some x)
 commit_kind config h m to reading x floor tablets r time append run ok = asked_kind config h m to (request.Commit x floor tablets) (mover_at config m h).line run ok.1 refl
 
 -- ## while a command is under way

@@ -1,12 +1,11 @@
 -- A transaction that a refusal closed never commits.
-use Rattle.std.proofs.Common.{◌≡◌, ℕ, Bool, true, false, List, [], ◌∷◌, ◌++◌, Option, Some, None, reverse, refl, sym, ◌∙◌, ap, subst, inl, inr, ◌⊎◌}
+use Rattle.std.proofs.Common.{◌≡◌, ℕ, Bool, true, false, List, [], ◌∷◌, Option, Some, reverse, refl, sym, ◌∙◌, ap, subst, inl, inr}
 use Rattle.std.proofs.lemmas.List.{reverse-append}
 use Rattle.txn_data.specs.declared.actor.Actor.{Actor}
-use Rattle.txn_data.specs.declared.actor.Actor.TheVariants.{Tablet, Status, Session, Applier}
+use Rattle.txn_data.specs.declared.actor.Actor.TheVariants.{Status, Session}
 use Rattle.txn_data.specs.declared.append.Append.{Append}
 use Rattle.txn_data.specs.declared.command.Command.{Command}
 use Rattle.txn_data.specs.declared.command.Command.TheVariants as command
-use Rattle.txn_data.specs.declared.committed_txn.CommittedTxn.{CommittedTxn}
 use Rattle.txn_data.specs.declared.config.Config.{Config}
 use Rattle.txn_data.specs.declared.fate.Fate.TheVariants as fate
 use Rattle.txn_data.specs.declared.meta.Meta.{Meta}
@@ -28,22 +27,21 @@ use Rattle.txn_types.specs.Lists.{Member}
 use Rattle.txn_types.specs.History.{History, is_start}
 use Rattle.txn_types.specs.Program.{Program, Done, refusal_told}
 use Rattle.txn_types.specs.TxnProgram.{txn_program}
-use Rattle.txn_types.specs.Session.{Keeps, Opened, commit_command, tablets_used}
-use Rattle.txn_types.specs.Reads.{before_start}
+use Rattle.txn_types.specs.Session.{Opened, commit_command, tablets_used}
+use Rattle.txn_types.specs.Reads.{before_start, open_txn}
 use Rattle.txn_types.specs.Run.{Run, Steps, Allowed, mover_at, program_of}
 use Rattle.txn_types.specs.Cause.{ToldAt, tells, ServedAt, served_since, works_inside}
-use Rattle.txn_promises.specs.Leaves.{is_write, ends_txn, open_id, NeverCommits}
+use Rattle.txn_promises.specs.Lines.{is_write}
+use Rattle.txn_promises.specs.Leaves.{ends_txn, NeverCommits}
 use Rattle.law_machines.specs.Own.{StandsOver}
 use Rattle.law_machines.proofs.Basics.{member_cases}
 use Rattle.law_machines.proofs.Owns.{steps_at, stands_member, stands_trans, member_stands}
-use Rattle.law_owners.specs.Owner.{IsHomedAt, owner_of}
 use Rattle.law_owners.proofs.Runs.{requests_homed}
 use Rattle.law_fates.specs.Laws.{Tells}
 use Rattle.law_fates.proofs.Runs.{told_aborted}
 use Rattle.law_open_txns.proofs.Open.{OpenOk}
 use Rattle.law_session_order.proofs.Runs.{commit_of}
 use Rattle.law_messages.proofs.Rules.{entry}
-use Rattle.law_courses.specs.Laws.{CouldStart}
 use Rattle.law_served.specs.Ran.{Ran}
 use Rattle.law_served.specs.Laws.{RanAs}
 use Rattle.law_served.proofs.Above.{entered}
@@ -75,13 +73,13 @@ module _ (config : Config) (h : History) (t : ToldAt) (i : ℕ) (line : Command)
 
   -- the state of the session where the commit was served
   kind_at : (c : History) (a from : Actor) (reading : Option ℕ) (floor : ℕ) (tablets : List ℕ) (r : Reply) (time : Option ℕ) (append : Append) → StandsOver (entry a reading (Serve from (request.Commit x.meta.txn floor tablets) r time append)) c h →
-      ((mover_at config (Session i) c).line ≡ Some command.Commit) × (open_id (mover_at config (Session i) c).keeps.opened ≡ Some x.meta.txn)
+      ((mover_at config (Session i) c).line ≡ Some command.Commit) × (open_txn (mover_at config (Session i) c).keeps.opened ≡ Some x.meta.txn)
   kind_at c a from reading floor tablets r time append stands =
       let k : Entry = entry a reading (Serve from (request.Commit x.meta.txn floor tablets) r time append) in
       let parts = steps_parts config k c (steps_at config k c h run.1 stands) in
       let homed = (requests_homed config h k run (stands_member k c h stands)).0 in
       let mine : from ≡ Session i = homed.0 ∙ sym known.homed.0 in
-      subst (λ (m : Actor). ((mover_at config m c).line ≡ Some command.Commit) × (open_id (mover_at config m c).keeps.opened ≡ Some x.meta.txn)) mine
+      subst (λ (m : Actor). ((mover_at config m c).line ≡ Some command.Commit) × (open_txn (mover_at config m c).keeps.opened ≡ Some x.meta.txn)) mine
       (commit_kind config c from a reading x.meta.txn floor tablets r time append (run.0, parts.0) parts.1)
 
   -- where it stands

@@ -1,9 +1,9 @@
 -- What the logs hold of a command that was refused.
-use Rattle.std.proofs.Common.{◌≡◌, ℕ, Bool, true, false, ◌&&◌, not, List, [], ◌∷◌, Option, Some, None, refl, sym, ◌∙◌, ap, subst, inl, inr, ◌⊎◌}
+use Rattle.std.proofs.Common.{◌≡◌, ℕ, Bool, true, false, not, List, Option, Some, refl, sym, ◌∙◌, ap, subst, inl, inr, ◌⊎◌}
 use Rattle.txn_data.specs.declared.actor.Actor.{Actor}
 use Rattle.txn_data.specs.declared.actor.Actor.TheVariants.{Tablet, Status, Session, Applier}
 use Rattle.txn_data.specs.declared.append.Append.{Append}
-use Rattle.txn_data.specs.declared.append.Append.TheVariants.{Nothing, Took, Failed}
+use Rattle.txn_data.specs.declared.append.Append.TheVariants.{Took, Failed}
 use Rattle.txn_data.specs.declared.command.Command.{Command}
 use Rattle.txn_data.specs.declared.command.Command.TheVariants as command
 use Rattle.txn_data.specs.declared.config.Config.{Config}
@@ -20,71 +20,49 @@ use Rattle.txn_data.specs.declared.told.Told.{Told}
 use Rattle.txn_data.specs.declared.told.Told.TheVariants as told
 use Rattle.txn_data.specs.declared.told_refusal.ToldRefusal.{ToldRefusal}
 use Rattle.txn_data.specs.declared.told_refusal.ToldRefusal.TheVariants as why
-use Rattle.txn_data.specs.declared.event.Event.TheVariants.{Serve}
-use Rattle.txn_data.specs.declared.entry.Entry.{Entry}
 use Rattle.txn_types.specs.Lists.{Member}
-use Rattle.txn_types.specs.History.{History, own, next_restart_kept, stands_in_log}
+use Rattle.txn_types.specs.History.{History}
 use Rattle.txn_types.specs.Program.{refusal_told}
 use Rattle.txn_types.specs.Session.{Keeps, Opened}
 use Rattle.txn_types.specs.Run.{Run, mover_at, may_lose_after, is_settling}
+use Rattle.txn_types.specs.Reads.{open_txn}
 use Rattle.txn_types.specs.Cause.{ToldAt, tells, ServedAt, served_since, own_then}
-use Rattle.txn_promises.specs.Leaves.{mover_then, entry_served, is_data, is_write, is_single, open_id, MayStand, Nowhere, AsKept, asks_single, is_restart, restarted_since, DataLeft}
-use Rattle.txn_promises.specs.Refuses.{is_abort}
-use Rattle.law_messages.proofs.Rules.{entry}
+use Rattle.txn_promises.specs.Lines.{mover_then, is_write, is_single, is_restart, is_closing, TellsJust}
+use Rattle.txn_promises.specs.Leaves.{ends_txn, MayStand, MayFail, asks_single, restarted_since, DataLeft}
 use Rattle.law_courses.specs.Laws.{CouldStart}
-use Rattle.law_served.proofs.Above.{Entered, entered}
+use Rattle.law_served.proofs.Above.{entered}
 use Rattle.law_served.proofs.Tellings.{telling, told_at}
 use Rattle.law_heard.proofs.Heeds.{Forgot}
-use Rattle.law_heard.proofs.Means.{IsTablet, IsAsked, NotRefused, RefusalTold, Means}
+use Rattle.law_heard.proofs.Means.{IsTablet, IsAsked, shuts, Shut, RefusalTold, AbortMeans, Means}
 use Rattle.law_heard.proofs.Lines.{Stops}
-use Rattle.law_heard.proofs.Shapes.{logs, IsDone, IsMet, Shape, shape_served}
+use Rattle.law_refusal_rows.proofs.Shapes.{logs, IsDone, Shape, shape_served}
 use Rattle.law_heard.proofs.Says.{Line, told_line}
+use Rattle.law_heard.proofs.Runs.{heard_is_told}
 
--- ## pieces of a log
+-- ## only a session writes and ends
 
-and_true : (b : Bool) → (b && true) ≡ b
-and_true true = refl
-and_true false = refl
+-- a write, a single write, a begin, a commit or an abort
+abbrev is_own : Request → Bool
+is_own (request.Write meta number path op read seen fates) = true
+is_own (request.Single x path op seen fates) = true
+is_own (request.Begin x isolation priority) = true
+is_own (request.Commit x floor tablets) = true
+is_own (request.Abort x) = true
+is_own asked = false
 
-unlogged : (later : List Entry) (a m : Actor) (reading : Option ℕ) (asked : Request) (r : Reply) (time : Option ℕ) (append : Append) → append ≡ Nothing → stands_in_log later (entry a reading (Serve m asked r time append)) ≡ false
-unlogged later a m reading asked r time append is = rw is refl
-
-failed : (later : List Entry) (a m : Actor) (reading : Option ℕ) (asked : Request) (r : Reply) (time : Option ℕ) (append : Append) → append ≡ Failed → stands_in_log later (entry a reading (Serve m asked r time append)) ≡ next_restart_kept a later
-failed later a m reading asked r time append is = rw is (and_true (next_restart_kept a later))
-
--- ## only a session writes
-
-session_data : (config : Config) (m : Actor) (keeps : Keeps) (line : Command) (opened : Option Opened) (to : Actor) (asked : Request) → CouldStart config m keeps line → IsAsked (Some line) opened to asked → is_data asked ≡ true → (i : ℕ) × (m ≡ Session i)
-session_data config (Session i) keeps line opened to asked could kind data_asked = (i, refl)
-session_data config (Applier k) keeps line opened to asked could kind data_asked = absurd (no_pass asked (subst (λ (l : Command). IsAsked (Some l) opened to asked) could.2.1 kind) data_asked)
+session_own : (config : Config) (m : Actor) (keeps : Keeps) (line : Command) (opened : Option Opened) (to : Actor) (asked : Request) → CouldStart config m keeps line → IsAsked (Some line) opened to asked → is_own asked ≡ true → (i : ℕ) × (m ≡ Session i)
+session_own config (Session i) keeps line opened to asked could kind own_asked = (i, refl)
+session_own config (Applier k) keeps line opened to asked could kind own_asked = absurd (no_pass asked (subst (λ (l : Command). IsAsked (Some l) opened to asked) could.2.1 kind) own_asked)
   where
-    no_pass : (q : Request) → IsAsked (Some (command.Apply k)) opened to q → is_data q ≡ true → ⊥
+    no_pass : (q : Request) → IsAsked (Some (command.Apply k)) opened to q → is_own q ≡ true → ⊥
     no_pass (request.Write meta number path op read seen fates) asks is = let wrong = asks.1 in cc
     no_pass (request.Single x path op seen fates) asks is = let wrong = asks.1 in cc
     no_pass (request.Begin x isolation priority) asks is = cc
     no_pass (request.Commit x floor tablets) asks is = let wrong = asks.0 in cc
+    no_pass (request.Abort x) asks is = elim asks.0 [ inl writes ↦ cc | inr aborts ↦ cc ]
     no_pass q asks is = cc
-session_data config (Tablet k) keeps line opened to asked could kind data_asked = absurd could.2
-session_data config (Status j) keeps line opened to asked could kind data_asked = absurd could.2
-
-no_abort : (asked : Request) (b : Bool) → is_data asked ≡ true → (is_abort asked && b) ≡ false
-no_abort (request.Abort x) b is = cc
-no_abort asked b is = refl
-
--- what is done is not refused
-done_means : (closing : Bool) (Halts : Type 0) (to : Actor) (asked : Request) (r : Reply) (t : Told) → is_data asked ≡ true → IsDone asked r → Means closing Halts to asked r t → NotRefused t
-done_means closing Halts to (request.Write meta number path op read seen fates) r t is done means = subst (λ (x : Reply). Means closing Halts to (request.Write meta number path op read seen fates) x t) done.1 means
-done_means closing Halts to (request.Single x path op seen fates) r t is done means = subst (λ (y : Reply). Means closing Halts to (request.Single x path op seen fates) y t) done.1 means
-done_means closing Halts to (request.Begin x isolation priority) r t is done means = subst (λ (y : Reply). Means closing Halts to (request.Begin x isolation priority) y t) done means
-done_means closing Halts to (request.Commit x floor tablets) r t is done means = subst (λ (y : Reply). Means closing Halts to (request.Commit x floor tablets) y t) done.1 means
-done_means closing Halts to asked r t is done means = cc
-
-done_settles : (asked : Request) (r : Reply) → is_data asked ≡ true → IsDone asked r → is_settling r ≡ true
-done_settles (request.Write meta number path op read seen fates) r is done = rw done.1 refl
-done_settles (request.Single x path op seen fates) r is done = rw done.1 refl
-done_settles (request.Begin x isolation priority) r is done = rw done refl
-done_settles (request.Commit x floor tablets) r is done = rw done.1 refl
-done_settles asked r is done = cc
+session_own config (Tablet k) keeps line opened to asked could kind own_asked = absurd could.2
+session_own config (Status j) keeps line opened to asked could kind own_asked = absurd could.2
 
 settled_not : (b : Bool) → b ≡ true → not b ≡ true → ⊥
 settled_not true one two = cc
@@ -93,33 +71,87 @@ settled_not false one two = cc
 forgot_session : (m : Actor) (i : ℕ) (r : Reply) (t : Told) → m ≡ Session i → is_settling r ≡ true → Forgot (may_lose_after m r) t → ⊥
 forgot_session m i r t who settles none = settled_not (is_settling r) settles (subst (λ (a : Actor). may_lose_after a r ≡ true) who none.1)
 
-plain_told : (b : Bool) (to : Actor) (r : Refusal) (t : Told) → b ≡ false → RefusalTold b to r t → t ≡ told.Refused (refusal_told to r)
-plain_told true to r t is means = cc
-plain_told false to r t is means = means
-
 told_is : (one two : ToldRefusal) → told.Refused one ≡ told.Refused two → one ≡ two
 told_is one two is = cc
 
--- ## what besides stands
+-- ## what a log took
 
-besides_of : (line : Option Command) (opened : Option Opened) (to : Actor) (asked : Request) → IsAsked line opened to asked → is_data asked ≡ false → logs asked ≡ true → MayStand line opened asked
-besides_of line opened to (request.ListRead own_txn paths t g limit) kind other log = kind
-besides_of line opened to (request.AskFate x t) kind other log = kind
-besides_of line opened to (request.Resolve x by priority) kind other log = kind
-besides_of line opened to (request.Abort x) kind other log = kind
-besides_of line opened to (request.Apply x at) kind other log = kind
-besides_of line opened to (request.Clean x) kind other log = kind
-besides_of line opened to (request.Applied x tablet) kind other log = kind
-besides_of line opened to (request.ListWrite x path) kind other log = cc
-besides_of line opened to (request.Collect own_txn k paths t window fates) kind other log = cc
-besides_of line opened to request.ListIntents kind other log = cc
-besides_of line opened to request.Restart kind other log = cc
-besides_of line opened to asked kind other log = cc
+done_settles : (asked : Request) (r : Reply) → is_own asked ≡ true → IsDone asked r → is_settling r ≡ true
+done_settles (request.Write meta number path op read seen fates) r is done = rw done.1 refl
+done_settles (request.Single x path op seen fates) r is done = rw done.1 refl
+done_settles (request.Begin x isolation priority) r is done = rw done refl
+done_settles (request.Commit x floor tablets) r is done = rw done.1 refl
+done_settles (request.Abort x) r is done = rw done refl
+done_settles asked r is done = cc
 
-shape_logs : (asked : Request) (r : Reply) (append : Append) → Shape asked r append → (append ≡ Nothing → ⊥) → logs asked ≡ true
-shape_logs asked r Nothing shape not = absurd (not refl)
-shape_logs asked r Took shape not = shape.2
-shape_logs asked r Failed shape not = shape.1
+shut_ends : (line : Option Command) (w : ToldRefusal) → is_write line ≡ true → shuts w ≡ true → ends_txn line w ≡ true
+shut_ends line (why.Conflict other) writes shut = writes
+shut_ends line (why.Overlap at) writes shut = writes
+shut_ends line (why.LogFault a) writes shut = writes
+shut_ends line w writes shut = cc
+
+-- of an Abort that closes
+shut_stands : (line : Option Command) (opened : Option Opened) (x : ℕ) (t : Told) (w : ToldRefusal) → t ≡ told.Refused w → is_write line ≡ true → open_txn opened ≡ Some x → Shut t → MayStand line opened w (request.Abort x)
+shut_stands line opened x t w is writes there shut =
+    (writes, shut_ends line w writes (subst (λ (v : ToldRefusal). shuts v ≡ true) (told_is shut.0 w (sym shut.1 ∙ is)) shut.2), there)
+
+abort_stands : (line : Option Command) (opened : Option Opened) (x : ℕ) (t : Told) (w : ToldRefusal) (b : Bool) → is_write line ≡ b → t ≡ told.Refused w → open_txn opened ≡ Some x → AbortMeans b reply.Ended t → MayStand line opened w (request.Abort x)
+abort_stands line opened x t w true writes is there means = shut_stands line opened x t w is writes there means
+abort_stands line opened x t w false writes is there means = absurd (means w is)
+
+-- of what was asked for the line of a refused command, and answered so
+taken_of : (line : Command) (opened : Option Opened) (Halts : Type 0) (to : Actor) (asked : Request) (r : Reply) (t : Told) (w : ToldRefusal) → IsAsked (Some line) opened to asked → logs asked ≡ true → IsDone asked r → t ≡ told.Refused w →
+    Means (is_write (Some line)) Halts to asked r t → MayStand (Some line) opened w asked
+taken_of line opened Halts to (request.Write meta number path op read seen fates) r t w kind log done is means = absurd (subst (λ (y : Reply). Means (is_write (Some line)) Halts to (request.Write meta number path op read seen fates) y t) done.1 means w is)
+taken_of line opened Halts to (request.Single x path op seen fates) r t w kind log done is means = absurd (subst (λ (y : Reply). Means (is_write (Some line)) Halts to (request.Single x path op seen fates) y t) done.1 means w is)
+taken_of line opened Halts to (request.Begin x isolation priority) r t w kind log done is means = absurd (subst (λ (y : Reply). Means (is_write (Some line)) Halts to (request.Begin x isolation priority) y t) done means w is)
+taken_of line opened Halts to (request.Commit x floor tablets) r t w kind log done is means = absurd (subst (λ (y : Reply). Means (is_write (Some line)) Halts to (request.Commit x floor tablets) y t) done.1 means w is)
+taken_of line opened Halts to (request.Abort x) r t w kind log done is means =
+    abort_stands (Some line) opened x t w (is_write (Some line)) refl is kind.1 (subst (λ (y : Reply). Means (is_write (Some line)) Halts to (request.Abort x) y t) done means)
+taken_of line opened Halts to (request.ListRead own_txn paths t0 g limit) r t w kind log done is means = kind
+taken_of line opened Halts to (request.AskFate x at) r t w kind log done is means = kind
+taken_of line opened Halts to (request.Resolve x by priority) r t w kind log done is means = kind
+taken_of line opened Halts to (request.Apply x at) r t w kind log done is means = kind
+taken_of line opened Halts to (request.Clean x) r t w kind log done is means = kind
+taken_of line opened Halts to (request.Applied x tablet) r t w kind log done is means = kind
+taken_of line opened Halts to asked r t w kind log done is means = cc
+
+-- what is not of a session's own may stand whatever is told
+plain_of : (line : Option Command) (opened : Option Opened) (to : Actor) (asked : Request) (w : ToldRefusal) → IsAsked line opened to asked → logs asked ≡ true → is_own asked ≡ false → MayStand line opened w asked
+plain_of line opened to (request.ListRead own_txn paths t0 g limit) w kind log other = kind
+plain_of line opened to (request.AskFate x at) w kind log other = kind
+plain_of line opened to (request.Resolve x by priority) w kind log other = kind
+plain_of line opened to (request.Apply x at) w kind log other = kind
+plain_of line opened to (request.Clean x) w kind log other = kind
+plain_of line opened to (request.Applied x tablet) w kind log other = kind
+plain_of line opened to (request.ListWrite x path) w kind log other = cc
+plain_of line opened to (request.Collect own_txn k paths t window fates) w kind log other = cc
+plain_of line opened to request.ListIntents w kind log other = cc
+plain_of line opened to request.Restart w kind log other = cc
+plain_of line opened to asked w kind log other = cc
+
+-- ## what failed
+
+abort_fails : (line : Option Command) (opened : Option Opened) (to : Actor) (x : ℕ) (t : Told) (w : ToldRefusal) → IsAsked line opened to (request.Abort x) → t ≡ told.Refused w → RefusalTold (is_write line) to refusal.LogFault t → MayFail line opened w (request.Abort x)
+abort_fails line opened to x t w kind is means = elim kind.0 [
+  | inl writes ↦ inl (shut_stands line opened x t w is writes kind.1 (subst (λ (b : Bool). RefusalTold b to refusal.LogFault t) writes means))
+  | inr aborts ↦ inr (aborts, kind.1)
+]
+
+failed_of : (line : Command) (opened : Option Opened) (Halts : Type 0) (to : Actor) (asked : Request) (t : Told) (w : ToldRefusal) → IsAsked (Some line) opened to asked → logs asked ≡ true → t ≡ told.Refused w →
+    (is_own asked ≡ true → Means (is_write (Some line)) Halts to asked (reply.Refused refusal.LogFault) t) → MayFail (Some line) opened w asked
+failed_of line opened Halts to (request.Write meta number path op read seen fates) t w kind log is means = (kind.1, kind.2)
+failed_of line opened Halts to (request.Single x path op seen fates) t w kind log is means = kind.1
+failed_of line opened Halts to (request.Begin x isolation priority) t w kind log is means = kind
+failed_of line opened Halts to (request.Commit x floor tablets) t w kind log is means = kind
+failed_of line opened Halts to (request.Abort x) t w kind log is means = abort_fails (Some line) opened to x t w kind is (means refl)
+failed_of line opened Halts to (request.ListRead own_txn paths t0 g limit) t w kind log is means = kind
+failed_of line opened Halts to (request.AskFate x at) t w kind log is means = kind
+failed_of line opened Halts to (request.Resolve x by priority) t w kind log is means = kind
+failed_of line opened Halts to (request.Apply x at) t w kind log is means = kind
+failed_of line opened Halts to (request.Clean x) t w kind log is means = kind
+failed_of line opened Halts to (request.Applied x tablet) t w kind log is means = kind
+failed_of line opened Halts to asked t w kind log is means = cc
 
 -- ## a single write that was not served
 
@@ -161,42 +193,37 @@ module _ (config : Config) (h : History) (t : ToldAt) (w : ToldRefusal) (run : R
   shape : (s : ServedAt) → Member s (served_since t.who t.before) → Shape s.asked s.reply s.append
   shape s there = let e = entered config t.who t.before s before.1 there in shape_served config.lease_us s.by (own_then s) s.reading s.asked s.reply e.time s.append e.allowed.2
 
-  abbrev Said : ServedAt → Type 0
-  Said s = Means (is_write (Some line.line)) (Stops (mover_at config t.who t.before).keeps line.line) s.by s.asked s.reply t.told ⊎ Forgot (may_lose_after t.who s.reply) t.told
-
-  took : (s : ServedAt) (i : ℕ) → t.who ≡ Session i → is_data s.asked ≡ true → IsDone s.asked s.reply → Said s → ⊥
-  took s i who data_asked done said = elim said [
-    | inl means ↦ done_means (is_write (Some line.line)) (Stops (mover_at config t.who t.before).keeps line.line) s.by s.asked s.reply t.told data_asked done means w is
-    | inr none ↦ forgot_session t.who i s.reply t.told who (done_settles s.asked s.reply data_asked done) none
-  ]
-
-  faulted : (s : ServedAt) (i : ℕ) → t.who ≡ Session i → is_data s.asked ≡ true → s.reply ≡ reply.Refused refusal.LogFault → Said s → w ≡ why.LogFault s.by
-  faulted s i who data_asked fault said =
-      elim (subst (λ (r : Reply). Means (is_write (Some line.line)) (Stops (mover_at config t.who t.before).keeps line.line) s.by s.asked r t.told ⊎ Forgot (may_lose_after t.who r) t.told) fault said) [
-        | inl means ↦ told_is w (why.LogFault s.by) (sym is ∙ plain_told (is_abort s.asked && is_write (Some line.line)) s.by refusal.LogFault t.told (no_abort s.asked (is_write (Some line.line)) data_asked) means)
-        | inr none ↦ absurd (forgot_session t.who i (reply.Refused refusal.LogFault) t.told who refl none)
-      ]
-
-  by_append : (s : ServedAt) (time : Option ℕ) (later : List Entry) (append : Append) → s.append ≡ append → Shape s.asked s.reply append → (i : ℕ) → t.who ≡ Session i → is_data s.asked ≡ true → Said s → Nowhere later t.who s time ⊎ AsKept w later t.who s time
-  by_append s time later Nothing same shaped i who data_asked said = inl (unlogged later s.by t.who s.reading s.asked s.reply time s.append same)
-  by_append s time later Took same shaped i who data_asked said = absurd (took s i who data_asked shaped.1 said)
-  by_append s time later Failed same shaped i who data_asked said = inr (faulted s i who data_asked shaped.0 said, same, failed later s.by t.who s.reading s.asked s.reply time s.append same)
-
-  nothing : (s : ServedAt) (time : Option ℕ) (later : List Entry) → Member s (served_since t.who t.before) → is_data s.asked ≡ true → Nowhere later t.who s time ⊎ AsKept w later t.who s time
-  nothing s time later there data_asked =
+  -- a session that heard this tells what it means
+  means_own : (s : ServedAt) → Member s (served_since t.who t.before) → is_own s.asked ≡ true → is_settling s.reply ≡ true →
+      Means (is_write (Some line.line)) (Stops (mover_at config t.who t.before).keeps line.line) s.by s.asked s.reply t.told
+  means_own s there own_asked settles =
       let says = line.says s there in
-      let i = session_data config t.who (mover_at config t.who t.before).keeps line.line (mover_at config t.who t.before).keeps.opened s.by s.asked line.could says.0 data_asked in
-      by_append s time later s.append refl (shape s there) i.0 i.1 data_asked says.1
+      let i = session_own config t.who (mover_at config t.who t.before).keeps line.line (mover_at config t.who t.before).keeps.opened s.by s.asked line.could says.0 own_asked in
+      elim says.1 [ inl means ↦ means | inr none ↦ absurd (forgot_session t.who i.0 s.reply t.told i.1 settles none) ]
 
-  besides : (s : ServedAt) (time : Option ℕ) (later : List Entry) → Member s (served_since t.who t.before) → is_data s.asked ≡ false → stands_in_log later (entry_served t.who s time) ≡ true →
-      MayStand (mover_then config t).line (mover_then config t).keeps.opened s.asked
-  besides s time later there other stands =
-      let logged = shape_logs s.asked s.reply s.append (shape s there) (λ none. unlogged_not s time later none stands) in
-      subst (λ (o : Option Command). MayStand o (mover_at config t.who t.before).keeps.opened s.asked) (sym line.is)
-      (besides_of (Some line.line) (mover_at config t.who t.before).keeps.opened s.by s.asked (line.says s there).0 other logged)
-    where
-      unlogged_not : (u : ServedAt) (o : Option ℕ) (l : List Entry) → u.append ≡ Nothing → stands_in_log l (entry_served t.who u o) ≡ true → ⊥
-      unlogged_not u o l none yet = let none_stands = unlogged l u.by t.who u.reading u.asked u.reply o u.append none in let wrong : false ≡ true = sym none_stands ∙ yet in cc
+  own_cases : (b : Bool) → (b ≡ true) ⊎ (b ≡ false)
+  own_cases true = inl refl
+  own_cases false = inr refl
+
+  taken : (s : ServedAt) → Member s (served_since t.who t.before) → s.append ≡ Took → MayStand (mover_then config t).line (mover_then config t).keeps.opened w s.asked
+  taken s there took =
+      let shaped : Shape s.asked s.reply Took = subst (λ (p : Append). Shape s.asked s.reply p) took (shape s there) in
+      let kind = (line.says s there).0 in
+      subst (λ (o : Option Command). MayStand o (mover_at config t.who t.before).keeps.opened w s.asked) (sym line.is)
+      (elim (own_cases (is_own s.asked)) [
+        | inl own_asked ↦ taken_of line.line (mover_at config t.who t.before).keeps.opened (Stops (mover_at config t.who t.before).keeps line.line) s.by s.asked s.reply t.told w kind shaped.2 shaped.1 is (means_own s there own_asked (done_settles s.asked s.reply own_asked shaped.1))
+        | inr other ↦ plain_of (Some line.line) (mover_at config t.who t.before).keeps.opened s.by s.asked w kind shaped.2 other
+      ])
+
+  failed : (s : ServedAt) → Member s (served_since t.who t.before) → s.append ≡ Failed →
+      MayFail (mover_then config t).line (mover_then config t).keeps.opened w s.asked × (is_closing (mover_then config t).line s.asked ≡ false → TellsJust t.who t.told (why.LogFault s.by))
+  failed s there fails =
+      let shaped : Shape s.asked s.reply Failed = subst (λ (p : Append). Shape s.asked s.reply p) fails (shape s there) in (
+        subst (λ (o : Option Command). MayFail o (mover_at config t.who t.before).keeps.opened w s.asked) (sym line.is)
+            (failed_of line.line (mover_at config t.who t.before).keeps.opened (Stops (mover_at config t.who t.before).keeps line.line) s.by s.asked t.told w (line.says s there).0 shaped.1 is
+            (λ own_asked. subst (λ (r : Reply). Means (is_write (Some line.line)) (Stops (mover_at config t.who t.before).keeps line.line) s.by s.asked r t.told) shaped.0 (means_own s there own_asked (rw shaped.0 refl)))),
+        λ open_still. (heard_is_told config h t run here).refused s refusal.LogFault there shaped.0 open_still,
+      )
 
   unwritten : (j : ℕ) → w ≡ why.LogFault (Status j) → is_single (mover_then config t).line ≡ true → (s : ServedAt) → Member s (served_since t.who t.before) → asks_single s.asked ≡ false
   unwritten j fault single s there =
@@ -206,4 +233,4 @@ module _ (config : Config) (h : History) (t : ToldAt) (w : ToldRefusal) (run : R
       (subst (λ (u : Told). Means (is_write (Some line.line)) (Stops (mover_at config t.who t.before).keeps line.line) s.by s.asked s.reply u ⊎ Forgot (may_lose_after t.who s.reply) u) now says.1)
 
   pub data_left : ((a : Actor) → Member a (restarted_since t.who t.before) → (is_restart (mover_then config t).line ≡ true) × (w ≡ why.Memory)) → DataLeft config t w
-  data_left restarts = record { nothing = nothing; besides = besides; unwritten = unwritten; restarts = restarts }
+  data_left restarts = record { taken = taken; failed = failed; unwritten = unwritten; restarts = restarts }

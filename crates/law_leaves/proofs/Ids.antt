@@ -1,5 +1,5 @@
 -- The ids that a session has open, and one that it has closed for good.
-use Rattle.std.proofs.Common.{◌≡◌, ℕ, ◌+◌, ◌*◌, ◌^◌, ◌≤◌, Bool, true, false, List, [], ◌∷◌, Option, Some, None, refl, sym, ◌∙◌, ap, subst, inl, inr, ◌⊎◌, arith}
+use Rattle.std.proofs.Common.{◌≡◌, ℕ, ◌+◌, ◌*◌, ◌^◌, ◌≤◌, List, [], ◌∷◌, Option, Some, None, refl, sym, ◌∙◌, ap, subst, inl, inr, ◌⊎◌, arith}
 use Rattle.txn_data.specs.declared.actor.Actor.{Actor}
 use Rattle.txn_data.specs.declared.command.Command.{Command}
 use Rattle.txn_data.specs.declared.command.Command.TheVariants as command
@@ -16,7 +16,7 @@ use Rattle.txn_data.specs.declared.entry.Entry.{Entry}
 use Rattle.txn_types.specs.History.{History}
 use Rattle.txn_types.specs.Session.{Keeps, Opened, txn_id, opens, after_write, after_end, after_read, opened_after, serial_after}
 use Rattle.txn_types.specs.Run.{Mover, mover_at, mover_after, kept_after, session_of}
-use Rattle.txn_promises.specs.Leaves.{open_id}
+use Rattle.txn_types.specs.Reads.{open_txn}
 use Rattle.law_machines.specs.Own.{StandsOver}
 use Rattle.law_machines.proofs.Basics.{same_cases}
 use Rattle.law_owners.proofs.Serials.{serial_least}
@@ -109,7 +109,7 @@ ids_at config m (e ∷ h) = elim (same_cases e.actor m) [
 -- ## closed for good
 
 abbrev pub Gone : Actor → ℕ → Keeps → Type 0
-Gone m x s = (open_id s.opened ≡ Some x → ⊥) × IsId m s.serial x
+Gone m x s = (open_txn s.opened ≡ Some x → ⊥) × IsId m s.serial x
 
 same_number : (b n k : ℕ) → b + n ≡ b + k → n ≡ k
 same_number b n k is = omega (arith, is)
@@ -120,12 +120,12 @@ not_next m serial x id is =
     let same : id.0 ≡ serial + 1 = same_number (session_of m * 2 ^ 64) id.0 (serial + 1) (sym id.1.0 ∙ is) in
     let wrong : ⊥ = omega (arith, low, same) in absurd wrong
 
-open_cases : (o : Option Opened) (x : ℕ) → open_id o ≡ Some x → (y : Opened) × ((o ≡ Some y) × (y.meta.txn ≡ x))
+open_cases : (o : Option Opened) (x : ℕ) → open_txn o ≡ Some x → (y : Opened) × ((o ≡ Some y) × (y.meta.txn ≡ x))
 open_cases None x is = cc
 open_cases (Some y) x is = let same : y.meta.txn ≡ x = cc in (y, (refl, same))
 
-open_is : (o : Option Opened) (y : Opened) (x : ℕ) → o ≡ Some y → y.meta.txn ≡ x → open_id o ≡ Some x
-open_is o y x is same = ap open_id is ∙ ap Some same
+open_is : (o : Option Opened) (y : Opened) (x : ℕ) → o ≡ Some y → y.meta.txn ≡ x → open_txn o ≡ Some x
+open_is o y x is same = ap open_txn is ∙ ap Some same
 
 kept_gone : (config : Config) (m : Actor) (x : ℕ) (s : Mover) (line : Option Command) (t : Told) → Gone m x s.keeps → Gone m x (kept_after config m s line t)
 kept_gone config m x s None t gone = gone

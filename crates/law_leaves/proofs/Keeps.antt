@@ -1,5 +1,5 @@
 -- What a mover keeps once it was told a refusal.
-use Rattle.std.proofs.Common.{◌≡◌, ℕ, ◌+◌, Bool, true, false, List, Option, Some, None, max, refl, sym, ◌∙◌, ap, subst, if◌then◌else◌, arith}
+use Rattle.std.proofs.Common.{◌≡◌, ℕ, ◌+◌, true, false, List, Option, Some, None, max, refl, sym, ◌∙◌, ap, if◌then◌else◌, arith}
 use Rattle.txn_data.specs.declared.actor.Actor.{Actor}
 use Rattle.txn_data.specs.declared.command.Command.{Command}
 use Rattle.txn_data.specs.declared.command.Command.TheVariants as command
@@ -11,9 +11,10 @@ use Rattle.txn_data.specs.declared.tablet_limit.TabletLimit.{TabletLimit}
 use Rattle.txn_data.specs.declared.told.Told.TheVariants as told
 use Rattle.txn_data.specs.declared.told_refusal.ToldRefusal.{ToldRefusal}
 use Rattle.txn_data.specs.declared.told_refusal.ToldRefusal.TheVariants as why
-use Rattle.txn_types.specs.Session.{Keeps, Opened, after_write, after_end, after_read, opens, opened_after, serial_after, moved_by, keeps_after}
+use Rattle.txn_types.specs.Session.{Keeps, Opened, after_write, after_end, opens, opened_after, serial_after, keeps_after}
 use Rattle.txn_types.specs.Run.{Mover, kept_after, session_of}
-use Rattle.txn_promises.specs.Leaves.{is_write, is_end, is_read, ends_txn, leaves_doubt, spends_serial, txn_left, opened_left}
+use Rattle.txn_promises.specs.Lines.{is_write, is_end, is_read}
+use Rattle.txn_promises.specs.Leaves.{ends_txn, leaves_doubt, spends_serial, txn_left, opened_left}
 use Rattle.law_at_once.proofs.Late.{is_commit, MayAbort}
 
 pub max_zero : (n : ℕ) → max n 0 ≡ n

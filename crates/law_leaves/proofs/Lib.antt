@@ -4,7 +4,4 @@ pub mod Data
 pub mod Ids
 pub mod Asks
 pub mod Closed
-pub mod Flights
-pub mod Closing
-pub mod Restarts
 pub mod Runs

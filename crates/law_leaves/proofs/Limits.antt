@@ -10,11 +10,10 @@ use Rattle.txn_data.specs.declared.reply.Reply.TheVariants as reply
 use Rattle.txn_data.specs.declared.event.Event.{Event}
 use Rattle.txn_data.specs.declared.event.Event.TheVariants.{Start, Ask, Serve, Hear, Tell, Restarted}
 use Rattle.txn_types.specs.Lists.{or_else}
-use Rattle.txn_types.specs.History.{History, same_actor, is_start}
-use Rattle.txn_types.specs.ReadProgram.{limit_of, with_limit}
-use Rattle.txn_types.specs.Session.{Opened}
+use Rattle.txn_types.specs.History.{History, is_start}
+use Rattle.txn_types.specs.ReadProgram.{limit_of}
 use Rattle.txn_types.specs.Run.{Mover, mover_at, mover_after, limits_of, limits_after}
-use Rattle.txn_promises.specs.Leaves.{limit_heard, first_limit, limits_open}
+use Rattle.txn_promises.specs.Leaves.{limit_heard, first_limit}
 use Rattle.law_machines.proofs.Basics.{same_cases, eq_cases}
 
 or_none : (o : Option ℕ) → or_else o None ≡ o
@@ -59,21 +58,17 @@ heard_more k ls (Session i) r = sym (or_none (limit_of k ls))
 heard_more k ls (Applier j) r = sym (or_none (limit_of k ls))
 
 abbrev Heard : ℕ → Mover → Option ℕ → Type 0
-Heard k s first = limit_of k s.limits ≡ or_else (limit_of k (limits_open s.keeps.opened)) first
-
-same_limits : (k : ℕ) (o : Option Opened) → limit_of k (limits_of o) ≡ limit_of k (limits_open o)
-same_limits k None = refl
-same_limits k (Some x) = refl
+Heard k s first = limit_of k s.limits ≡ or_else (limit_of k (limits_of s.keeps.opened)) first
 
 own_heard : (config : Config) (k : ℕ) (m : Actor) (s : Mover) (reading : Option ℕ) (event : Event) (line : Command) (first : Option ℕ) → ((l : Command) → s.line ≡ Some l → Heard k s first) → (mover_after config m s reading event).line ≡ Some line →
     Heard k (mover_after config m s reading event) (if is_start event then None else or_else first (limit_heard k event))
-own_heard config k m s reading (Start number l) line first before is = same_limits k s.keeps.opened ∙ sym (or_none (limit_of k (limits_open s.keeps.opened)))
-own_heard config k m s reading (Ask to asked) line first before is = before line is ∙ ap (λ (o : Option ℕ). or_else (limit_of k (limits_open s.keeps.opened)) o) (sym (or_none first))
+own_heard config k m s reading (Start number l) line first before is = sym (or_none (limit_of k (limits_of s.keeps.opened)))
+own_heard config k m s reading (Ask to asked) line first before is = before line is ∙ ap (λ (o : Option ℕ). or_else (limit_of k (limits_of s.keeps.opened)) o) (sym (or_none first))
 own_heard config k m s reading (Hear from r) line first before is =
-    heard_more k s.limits from r ∙ (ap (λ (o : Option ℕ). or_else o (limit_heard k (Hear from r))) (before line is) ∙ or_assoc (limit_of k (limits_open s.keeps.opened)) first (limit_heard k (Hear from r)))
+    heard_more k s.limits from r ∙ (ap (λ (o : Option ℕ). or_else o (limit_heard k (Hear from r))) (before line is) ∙ or_assoc (limit_of k (limits_of s.keeps.opened)) first (limit_heard k (Hear from r)))
 own_heard config k m s reading (Tell number t) line first before is = cc
-own_heard config k m s reading (Serve from asked r time append) line first before is = before line is ∙ ap (λ (o : Option ℕ). or_else (limit_of k (limits_open s.keeps.opened)) o) (sym (or_none first))
-own_heard config k m s reading (Restarted from kept) line first before is = before line is ∙ ap (λ (o : Option ℕ). or_else (limit_of k (limits_open s.keeps.opened)) o) (sym (or_none first))
+own_heard config k m s reading (Serve from asked r time append) line first before is = before line is ∙ ap (λ (o : Option ℕ). or_else (limit_of k (limits_of s.keeps.opened)) o) (sym (or_none first))
+own_heard config k m s reading (Restarted from kept) line first before is = before line is ∙ ap (λ (o : Option ℕ). or_else (limit_of k (limits_of s.keeps.opened)) o) (sym (or_none first))
 
 pub limits_heard : (config : Config) (k : ℕ) (m : Actor) (h : History) (line : Command) → (mover_at config m h).line ≡ Some line → Heard k (mover_at config m h) (first_limit m k h)
 unfolding mover_at first_limit

@@ -1,5 +1,5 @@
 -- What a refusal leaves, in every run.
-use Rattle.std.proofs.Common.{◌≡◌, ℕ, ◌+◌, ◌≤◌, Bool, true, false, [], ◌∷◌, Option, Some, None, refl, sym, ◌∙◌, ap, subst, inl, inr, ◌⊎◌, if◌then◌else◌, arith}
+use Rattle.std.proofs.Common.{◌≡◌, ℕ, ◌+◌, Bool, true, false, ◌∷◌, Option, Some, None, refl, sym, ◌∙◌, ap, subst, inl, inr, ◌⊎◌, if◌then◌else◌, arith}
 use Rattle.txn_data.specs.declared.actor.Actor.{Actor}
 use Rattle.txn_data.specs.declared.actor.Actor.TheVariants.{Tablet, Status, Session, Applier}
 use Rattle.txn_data.specs.declared.command.Command.{Command}
@@ -13,25 +13,26 @@ use Rattle.txn_data.specs.declared.event.Event.TheVariants.{Tell}
 use Rattle.txn_types.specs.Lists.{Member}
 use Rattle.txn_types.specs.History.{History}
 use Rattle.txn_types.specs.Session.{Keeps, Opened, keeps_after, moved_by, serial_after}
-use Rattle.txn_types.specs.Run.{Run, IsMachine, Allowed, Mover, mover_at, session_of}
+use Rattle.txn_types.specs.Run.{Run, Mover, mover_at, session_of}
+use Rattle.txn_types.specs.Reads.{open_txn}
 use Rattle.txn_types.specs.Cause.{ToldAt, tells}
-use Rattle.txn_promises.specs.Leaves.{mover_then, keeps_told, is_write, ends_txn, spends_serial, open_id, opened_left, NeverCommits, Ended, SessionLeft, NothingAsked, LeftBy, LeftBehind, asked_since, ClosingAsked, Closes, is_restart, restarted_since}
+use Rattle.txn_promises.specs.Lines.{is_write}
+use Rattle.txn_promises.specs.Leaves.{keeps_told, ends_txn, spends_serial, opened_left, NeverCommits, Ended, SessionLeft, NothingAsked, LeftBy, LeftBehind}
 use Rattle.law_machines.proofs.Basics.{same_refl}
 use Rattle.law_messages.proofs.Rules.{entry}
 use Rattle.law_owners.proofs.Serials.{serial_least}
 use Rattle.law_courses.specs.Laws.{CouldStart}
-use Rattle.law_served.proofs.Tellings.{Telling, telling, told_at}
+use Rattle.law_served.proofs.Tellings.{Telling, telling}
 use Rattle.law_heard.proofs.Runs.{heard_is_told}
 use Rattle.law_heard.proofs.Says.{Line, told_line}
 use Rattle.law_at_once.specs.Laws.{EarlyOf}
 use Rattle.law_at_once.proofs.Late.{is_commit, MayAbort}
 use Rattle.law_at_once.proofs.Runs.{refused_at_once, aborted_ends}
+use Rattle.law_asked.proofs.Runs.{session_write, aborts_asked, restarts}
 use Rattle.law_leaves.specs.Laws.{RefusalsLeave, ConditionsDecide}
 use Rattle.law_leaves.proofs.Keeps.{max_zero, serial_left, open_left, keeps_of}
 use Rattle.law_leaves.proofs.Limits.{limits_heard}
 use Rattle.law_leaves.proofs.Data.{data_left}
-use Rattle.law_leaves.proofs.Closing.{shuts, closing_asked}
-use Rattle.law_leaves.proofs.Restarts.{restarts_told}
 use Rattle.law_leaves.proofs.Ids.{Gone, IsId, ids_at}
 use Rattle.law_leaves.proofs.Closed.{closed_write, aborted_never, aborted_served, was_free}
 
@@ -49,35 +50,11 @@ ends_cases line (why.Aborted by) may ends = inr (by, (refl, commit_of line may))
     commit_of l is = cc
 ends_cases line w may ends = cc
 
-session_write : (config : Config) (m : Actor) (s : Keeps) (line : Command) → CouldStart config m s line → is_write (Some line) ≡ true → (i : ℕ) × (m ≡ Session i)
-session_write config (Session i) s line could writes = (i, refl)
-session_write config (Applier k) s line could writes = let wrong : is_write (Some (command.Apply k)) ≡ true = subst (λ (l : Command). is_write (Some l) ≡ true) could.2.1 writes in cc
-session_write config (Tablet k) s line could writes = absurd could.2
-session_write config (Status j) s line could writes = absurd could.2
-
 session_commit : (config : Config) (m : Actor) (s : Keeps) (line : Command) → CouldStart config m s line → line ≡ command.Commit → (i : ℕ) × (m ≡ Session i)
 session_commit config (Session i) s line could is = (i, refl)
 session_commit config (Applier k) s line could is = let wrong : command.Commit ≡ command.Apply k = sym is ∙ could.2.1 in cc
 session_commit config (Tablet k) s line could is = absurd could.2
 session_commit config (Status j) s line could is = absurd could.2
-
--- a refusal that ends the transaction of a write shuts it
-ends_shuts : (line : Command) (w : ToldRefusal) → MayAbort (is_commit (Some line)) (told.Refused w) → is_write (Some line) ≡ true → ends_txn (Some line) w ≡ true → shuts w ≡ true
-ends_shuts line (why.Conflict other) may writes ends = refl
-ends_shuts line (why.Overlap at) may writes ends = refl
-ends_shuts line (why.LogFault a) may writes ends = refl
-ends_shuts line (why.Aborted by) may writes ends = no_commit line may writes
-  where
-    no_commit : (l : Command) → is_commit (Some l) ≡ true → is_write (Some l) ≡ true → shuts (why.Aborted by) ≡ true
-    no_commit command.Commit commits write_too = cc
-    no_commit l commits write_too = cc
-ends_shuts line w may writes ends = cc
-
-no_machine : (config : Config) (m : Actor) (s : Keeps) (line : Command) → CouldStart config m s line → IsMachine config m → ⊥
-no_machine config (Tablet k) s line could machine = could.2
-no_machine config (Status j) s line could machine = could.2
-no_machine config (Session i) s line could machine = machine
-no_machine config (Applier k) s line could machine = machine
 
 -- ## the state once it was told
 
@@ -110,7 +87,7 @@ module _ (config : Config) (h : History) (t : ToldAt) (w : ToldRefusal) (run : R
       let id : IsId t.who m.keeps.serial x.meta.txn = ids_at config t.who t.before x there in
       let closed : (keeps_told config t).opened ≡ None = opened_is ∙ closed_of m.line there ends in
       let serial : (keeps_told config t).serial ≡ serial_after m.keeps line.line (told.Refused w) = ap (λ (k : Keeps). k.serial) keeps_are in (
-        λ still. let wrong : open_id None ≡ Some x.meta.txn = subst (λ (o : Option Opened). open_id o ≡ Some x.meta.txn) closed still in cc,
+        λ still. let wrong : open_txn None ≡ Some x.meta.txn = subst (λ (o : Option Opened). open_txn o ≡ Some x.meta.txn) closed still in cc,
         subst (λ (n : ℕ). IsId (Session i) n x.meta.txn) (sym serial)
             (subst (λ (a : Actor). IsId a (serial_after m.keeps line.line (told.Refused w)) x.meta.txn) who (more id)),
       )
@@ -157,32 +134,10 @@ module _ (config : Config) (h : History) (t : ToldAt) (w : ToldRefusal) (run : R
     ended = ended_now m.keeps.opened refl (ends_txn m.line w) refl;
   }
 
-  -- what allowed the entry that tells
-  place : Run config t.before × Allowed config t.before t.who t.reading (Tell at.number (told.Refused w))
-  place = let both = told_at config h t run at in (both.0, subst (λ (u : Told). Allowed config t.before t.who t.reading (Tell at.number u)) is both.1)
-
-  closes : Closes config t w
-  closes x writes ends there =
-      let now_writes : is_write (Some line.line) ≡ true = subst (λ (o : Option Command). is_write o ≡ true) line.is writes in
-      let now_ends : ends_txn (Some line.line) w ≡ true = subst (λ (o : Option Command). ends_txn o w ≡ true) line.is ends in
-      let i = session_write config t.who m.keeps line.line line.could now_writes in
-      as_session i.0 x t.who i.1 now_writes (ends_shuts line.line w may now_writes now_ends) place.1 line.is there
-    where
-      as_session : (i x : ℕ) (a : Actor) → a ≡ Session i → is_write (Some line.line) ≡ true → shuts w ≡ true → Allowed config t.before a t.reading (Tell at.number (told.Refused w)) → (mover_at config a t.before).line ≡ Some line.line →
-          open_id (mover_at config a t.before).keeps.opened ≡ Some x → ClosingAsked x (asked_since a t.before)
-      as_session i x a who writes shut ok same there =
-          subst (λ (b : Actor). ClosingAsked x (asked_since b t.before)) (sym who)
-          (closing_asked config t.before i x at.number t.reading line.line w place.0 (subst (λ (b : Actor). Allowed config t.before b t.reading (Tell at.number (told.Refused w))) who ok)
-          (subst (λ (b : Actor). (mover_at config b t.before).line ≡ Some line.line) who same) writes
-          (subst (λ (b : Actor). open_id (mover_at config b t.before).keeps.opened ≡ Some x) who there) shut)
-
-  restarts : (a : Actor) → Member a (restarted_since t.who t.before) → (is_restart m.line ≡ true) × (w ≡ why.Memory)
-  restarts a there =
-      let both = restarts_told config t.before t.who t.reading at.number line.line w a (no_machine config t.who m.keeps line.line line.could) place.0 place.1 line.is there in
-      (subst (λ (o : Option Command). is_restart o ≡ true) (sym line.is) both.0, both.1)
-
   left_by : NothingAsked t w → LeftBy config h t w
-  left_by asked = record { session = session_left; logs = data_left config h t w run here is restarts; asked = asked; closing = closes }
+  left_by asked =
+      let aborts = aborts_asked config h t w run here is in
+      record { session = session_left; logs = data_left config h t w run here is (λ a there. restarts config h t w a run here is there); asked = asked; aborts = aborts.0; closing = aborts.1 }
 
 leaves_of : (config : Config) (h : History) (t : ToldAt) (u : Told) → Run config h → Member t (tells h) → t.told ≡ u → EarlyOf t u → LeftBehind config h t u
 leaves_of config h t (told.Refused w) run here is asked = left_by config h t w run here is asked

@@ -1,5 +1,5 @@
 -- What a pass leaves, once no session is at work any more, in every run.
-use Rattle.std.specs.Prelude.{◌≡◌, ℕ, Option, None}
+use Rattle.std.specs.Prelude.{ℕ, Option}
 use Rattle.txn_data.specs.declared.actor.Actor.TheVariants.{Applier}
 use Rattle.txn_data.specs.declared.commands.Commands.{Commands}
 use Rattle.txn_data.specs.declared.config.Config.{Config}
@@ -7,11 +7,11 @@ use Rattle.txn_data.specs.declared.told.Told.TheVariants as told
 use Rattle.txn_data.specs.declared.event.Event.TheVariants.{Tell}
 use Rattle.txn_types.specs.History.{History}
 use Rattle.txn_types.specs.Reads.{before_start}
-use Rattle.txn_types.specs.Run.{Run, mover_at}
+use Rattle.txn_types.specs.Run.{Run}
 use Rattle.txn_types.specs.Script.{Whole}
-use Rattle.txn_types.specs.Settled.{Settled, SettledBy, AllSettled, last_told}
+use Rattle.txn_types.specs.Settled.{Settled, AllSettled}
 use Rattle.law_machines.specs.Own.{StandsOver}
-use Rattle.txn_promises.specs.Left.{RestSince}
+use Rattle.txn_promises.specs.Left.{RestSince, LeftAsTold}
 
 -- a pass was told that this many are left, and since its Start no session had a command under way: then its tablet is settled
 -- with just that number, whatever other appliers do, and whatever this one does later
@@ -22,8 +22,7 @@ PassesSettle = (config : Config) (h before : History) (k : ℕ) (reading : Optio
 
 -- so it is of the last pass of an applier that has no pass under way
 abbrev pub LastPassesSettle : Type 0
-LastPassesSettle = (config : Config) (h : History) (k : ℕ) → Run config h → (mover_at config (Applier k) h).line ≡ None → RestSince config (before_start (Applier k) h) h →
-    SettledBy h k (last_told (Applier k) h)
+LastPassesSettle = (config : Config) (h : History) (k : ℕ) → Run config h → LeftAsTold config h k
 
 -- and where all of a plan is done, of each tablet
 abbrev pub PlansSettle : Type 0

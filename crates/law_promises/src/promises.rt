@@ -33,7 +33,7 @@ pub fn writers_are_apart()
 {}
 
 /// Every run in which places with equal first parts name one tablet keeps all of this: what is promised of reads, writers,
-/// commit times, answers and refusals.
+/// commit times, answers, refusals and last passes.
 pub fn runs_keep_promises()
     ensures { RunsKeepPromises }
 {}

@@ -3,3 +3,4 @@ pub mod Overlaps
 pub mod Aborts
 pub mod Since
 pub mod Runs
+pub mod Faults

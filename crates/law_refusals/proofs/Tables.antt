@@ -26,13 +26,14 @@ use Rattle.txn_types.specs.History.{History}
 use Rattle.txn_types.specs.Clock.{Answer, told_only, refusal_answer, logged, timed, timed_answer, time_refused, holds, clock_time, Kind, Own, Floor, lease_due, lease_end, last_time, has_given, down_since}
 use Rattle.txn_types.specs.Tablet.{tablet_answer, tablet_up, tablet_standing, write_answer, has_any, provisional, conflict, greatest_above, related_commits, versions, greatest_fate, founds, others_on, listed, local_limit, considered, collected, met_under}
 use Rattle.txn_types.specs.Status.{status_answer, status_up, status_standing, record_of, commit_answer, fate_told, Record, NoRecord, Pending, Committed, AbortedBy, abort_answer, resolved, may_forget, is_sure, noted}
-use Rattle.law_refusals.specs.Refusals.{ConflictsAt, OverlapsThen, Explains}
+use Rattle.txn_promises.specs.Refuses.{MeetsConflict, MeetsOverlap}
+use Rattle.law_refusals.specs.Refusals.{Explains}
 use Rattle.txn_types.specs.Run.{ReadingFits, Serves, machine_answer}
 use Rattle.txn_types.specs.Cause.{needs_time, floor_asked, is_pending, Fails, IsRestart}
 
--- each refusal of this answer is explained
+-- each refusal of this answer is explained; out of memory is answered where a request is not in the machine's table
 abbrev pub Says : ℕ → History → Option ℕ → Request → Answer → Type 0
-Says lease o reading asked a = (why : Refusal) → a.reply ≡ reply.Refused why → Explains lease o reading asked a.append why
+Says lease o reading asked a = (why : Refusal) → a.reply ≡ reply.Refused why → (why ≡ refusal.Memory → ⊥) → Explains lease o reading asked a.append why
 
 abbrev NotRefused : Reply → Type 0
 NotRefused r = (why : Refusal) → r ≡ reply.Refused why → ⊥
@@ -58,9 +59,9 @@ fault_is : (why : Refusal) → reply.Refused refusal.LogFault ≡ reply.Refused 
 fault_is why is = cc
 
 logged_says : (lease : ℕ) (o : History) (reading : Option ℕ) (asked : Request) (fails due : Bool) (time : Option ℕ) (r : Reply) → NotRefused r → Says lease o reading asked (logged fails due time r)
-logged_says lease o reading asked fails false time r not why is = absurd (not why is)
-logged_says lease o reading asked false true time r not why is = absurd (not why is)
-logged_says lease o reading asked true true time r not why is = subst (Explains lease o reading asked Failed) (fault_is why is) (fails_so asked)
+logged_says lease o reading asked fails false time r not why is real = absurd (not why is)
+logged_says lease o reading asked false true time r not why is real = absurd (not why is)
+logged_says lease o reading asked true true time r not why is real = subst (Explains lease o reading asked Failed) (fault_is why is) (fails_so asked)
 
 -- ## the clock
 
@@ -103,10 +104,10 @@ why_is one two is = cc
 
 given_says : (lease : ℕ) (o : History) (reading : Option ℕ) (asked : Request) (end : Option ℕ) (fails records : Bool) (kind : Kind) (floor : ℕ) (time : Result ℕ TimeRefusal) (r : ℕ → Reply) →
     clock_time kind (last_time o) floor (or_zero reading) ≡ time → needs_time asked o ≡ true → HasFloor kind floor asked → ((now : ℕ) → NotRefused (r now)) → Says lease o reading asked (timed_answer lease end fails records time r)
-given_says lease o reading asked end fails records kind floor (Err e) r clock needs has not why is =
+given_says lease o reading asked end fails records kind floor (Err e) r clock needs has not why is real =
     subst (Explains lease o reading asked _) (why_is (time_refused e) why is) (refused_says lease o reading asked _ kind floor e needs has (clock_says kind (last_time o) floor (or_zero reading) e clock))
-given_says lease o reading asked end fails true kind floor (Ok time) r clock needs has not why is = logged_says lease o reading asked fails true (Some time) (r time) (not time) why is
-given_says lease o reading asked end fails false kind floor (Ok time) r clock needs has not why is = logged_says lease o reading asked fails (lease_due end time) (Some time) (r time) (not time) why is
+given_says lease o reading asked end fails true kind floor (Ok time) r clock needs has not why is real = logged_says lease o reading asked fails true (Some time) (r time) (not time) why is real
+given_says lease o reading asked end fails false kind floor (Ok time) r clock needs has not why is real = logged_says lease o reading asked fails (lease_due end time) (Some time) (r time) (not time) why is real
 
 both_true : (a b : Bool) → (not a && b) ≡ true → (a ≡ false) × (b ≡ true)
 both_true true b is = cc
@@ -118,10 +119,10 @@ held_so (Some u) given n is = let both = both_true given (nat_le n u) is in (ref
 
 held_says : (b : Bool) (lease : ℕ) (o : History) (reading : Option ℕ) (asked : Request) (a : Answer) → holds (lease_end lease o) (has_given o) (or_zero reading) ≡ b → needs_time asked o ≡ true → Says lease o reading asked a →
     Says lease o reading asked (if b then refusal_answer (refusal.LeaseHeld (or_zero (lease_end lease o))) else a)
-held_says true lease o reading asked a held needs says why is =
+held_says true lease o reading asked a held needs says why is real =
     let so = held_so (lease_end lease o) (has_given o) (or_zero reading) held in
     subst (Explains lease o reading asked _) (why_is (refusal.LeaseHeld (or_zero (lease_end lease o))) why is) (needs, so.0, so.1, so.2)
-held_says false lease o reading asked a held needs says why is = says why is
+held_says false lease o reading asked a held needs says why is real = says why is real
 
 timed_says : (lease : ℕ) (o : History) (reading : Option ℕ) (asked : Request) (fails : Bool) (kind : Kind) (floor : ℕ) (records : Bool) (r : ℕ → Reply) → needs_time asked o ≡ true → HasFloor kind floor asked → ((now : ℕ) → NotRefused (r now)) →
     Says lease o reading asked (timed lease o fails kind floor (or_zero reading) records r)
@@ -132,16 +133,16 @@ timed_says lease o reading asked fails kind floor records r needs has not =
 -- ## a tablet
 
 told_says : (lease : ℕ) (o : History) (reading : Option ℕ) (asked : Request) (r : Reply) → NotRefused r → Says lease o reading asked (told_only r)
-told_says lease o reading asked r not why is = absurd (not why is)
+told_says lease o reading asked r not why is real = absurd (not why is)
 
 memory_says : (lease : ℕ) (o : History) (reading : Option ℕ) (asked : Request) → Says lease o reading asked (refusal_answer refusal.Memory)
-memory_says lease o reading asked why is = subst (Explains lease o reading asked _) (why_is refusal.Memory why is) tt
+memory_says lease o reading asked why is real = absurd (real (sym (why_is refusal.Memory why is)))
 
-write_says : (c v : Option ℕ) (lease : ℕ) (o : History) (reading : Option ℕ) (asked : Request) (done : Answer) → ((other : ℕ) → c ≡ Some other → ConflictsAt asked o other) → ((at : ℕ) → c ≡ None → v ≡ Some at → OverlapsThen asked o at) →
+write_says : (c v : Option ℕ) (lease : ℕ) (o : History) (reading : Option ℕ) (asked : Request) (done : Answer) → ((other : ℕ) → c ≡ Some other → MeetsConflict asked o other) → ((at : ℕ) → c ≡ None → v ≡ Some at → MeetsOverlap asked o at) →
     (c ≡ None → v ≡ None → Says lease o reading asked done) → Says lease o reading asked (write_answer c v done)
-write_says (Some other) v lease o reading asked done conflicts overlaps says why is = subst (Explains lease o reading asked _) (why_is (refusal.Conflict other) why is) (conflicts other refl)
-write_says None (Some at) lease o reading asked done conflicts overlaps says why is = subst (Explains lease o reading asked _) (why_is (refusal.Overlap at) why is) (overlaps at refl refl)
-write_says None None lease o reading asked done conflicts overlaps says why is = says refl refl why is
+write_says (Some other) v lease o reading asked done conflicts overlaps says why is real = subst (Explains lease o reading asked _) (why_is (refusal.Conflict other) why is) (conflicts other refl)
+write_says None (Some at) lease o reading asked done conflicts overlaps says why is real = subst (Explains lease o reading asked _) (why_is (refusal.Overlap at) why is) (overlaps at refl refl)
+write_says None None lease o reading asked done conflicts overlaps says why is real = says refl refl why is real
 
 collected_plain : (kind : ReadKind) (paths : List Parts) (t : ℕ) (vs : List Version) (m : Option MetAt) → NotRefused (collected kind paths t vs m)
 collected_plain kind paths t vs (Some m) why is = cc
@@ -225,15 +226,15 @@ status_says lease o reading fails request.Restart = memory_says lease o reading 
 -- ## up or down
 
 tablet_stands : (down : Option ℕ) (lease : ℕ) (o : History) (reading : Option ℕ) (asked : Request) (up : Answer) → down_since o ≡ down → (IsRestart asked → ⊥) → Says lease o reading asked up → Says lease o reading asked (tablet_standing down up)
-tablet_stands (Some since) lease o reading asked up is live says why same = subst (Explains lease o reading asked _) (why_is (refusal.Down since) why same) (live, is)
-tablet_stands None lease o reading asked up is live says why same = says why same
+tablet_stands (Some since) lease o reading asked up is live says why same real = subst (Explains lease o reading asked _) (why_is (refusal.Down since) why same) (live, is)
+tablet_stands None lease o reading asked up is live says why same real = says why same real
 
 status_stands : (down : Option ℕ) (lease : ℕ) (o : History) (reading : Option ℕ) (asked : Request) (up : Answer) → down_since o ≡ down → (IsRestart asked → ⊥) → Says lease o reading asked up → Says lease o reading asked (status_standing down up)
-status_stands (Some since) lease o reading asked up is live says why same = subst (Explains lease o reading asked _) (why_is (refusal.Down since) why same) (live, is)
-status_stands None lease o reading asked up is live says why same = says why same
+status_stands (Some since) lease o reading asked up is live says why same real = subst (Explains lease o reading asked _) (why_is (refusal.Down since) why same) (live, is)
+status_stands None lease o reading asked up is live says why same real = says why same real
 
 load_says : (lease : ℕ) (o : History) (reading : Option ℕ) → Says lease o reading request.Restart (refusal_answer refusal.LogFault)
-load_says lease o reading why is = subst (Explains lease o reading request.Restart Nothing) (fault_is why is) tt
+load_says lease o reading why is real = subst (Explains lease o reading request.Restart Nothing) (fault_is why is) tt
 
 tablet_answers : (lease : ℕ) (o : History) (reading : Option ℕ) (fails : Bool) (asked : Request) → Says lease o reading asked (tablet_answer lease o fails (or_zero reading) asked)
 tablet_answers lease o reading fails (request.ListWrite x path) = tablet_stands (down_since o) lease o reading (request.ListWrite x path) _ refl (λ i. i) (up_says lease o reading fails (request.ListWrite x path))
@@ -275,10 +276,10 @@ machine_says lease (Status j) o reading fails asked = status_answers lease o rea
 machine_says lease (Session i) o reading fails asked = status_answers lease o reading fails asked
 machine_says lease (Applier k) o reading fails asked = status_answers lease o reading fails asked
 
--- each refusal that a machine serves is explained by the entries that it had of its own
-pub served_says : (lease : ℕ) (a : Actor) (o : History) (reading : Option ℕ) (asked : Request) (r : Reply) (time : Option ℕ) (append : Append) (why : Refusal) → Serves lease a o reading asked r time append → r ≡ reply.Refused why → Explains lease o reading asked append why
-served_says lease a o reading asked r time append why serves is =
-    subst (λ (p : Append). Explains lease o reading asked p why) (sym serves.logged) (machine_says lease a o reading serves.fails asked why (sym serves.replied ∙ is))
+-- each refusal that a machine serves is explained by the entries that it had of its own, out of memory apart
+pub served_says : (lease : ℕ) (a : Actor) (o : History) (reading : Option ℕ) (asked : Request) (r : Reply) (time : Option ℕ) (append : Append) (why : Refusal) → Serves lease a o reading asked r time append → r ≡ reply.Refused why → (why ≡ refusal.Memory → ⊥) → Explains lease o reading asked append why
+served_says lease a o reading asked r time append why serves is real =
+    subst (λ (p : Append). Explains lease o reading asked p why) (sym serves.logged) (machine_says lease a o reading serves.fails asked why (sym serves.replied ∙ is) real)
 
 -- a time is wanted only where a reading is taken
 needs_reading : (asked : Request) (o : History) → needs_time asked o ≡ true → takes_time asked ≡ true

@@ -1,2 +1,3 @@
 pub mod Refusals
+pub mod Faults
 pub mod Laws

@@ -6,8 +6,6 @@ pub mod Entries
 pub mod Branches
 pub mod Wrong
 pub mod Endings
-pub mod Refused
-pub mod WrongRefusals
 pub mod Shows
 pub mod Needed
 pub mod Plan

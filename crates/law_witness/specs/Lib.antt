@@ -5,5 +5,3 @@ pub mod Needed
 pub mod Branches
 pub mod Wrong
 pub mod Endings
-pub mod Refused
-pub mod WrongRefusals

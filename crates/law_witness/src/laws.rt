@@ -2,12 +2,10 @@
 ghost use Rattle.law_witness.specs.Branches.{both_done};
 ghost use Rattle.law_witness.specs.Endings.{IsTold, commit_after_abort, abort_after_commit, WrongTellsAreRefused};
 ghost use Rattle.law_witness.specs.Needed.{NotFreshBeyondSkew, MissesLaterCommit, MissesUnrelatedCommit, OneTabletIsNeeded, SingleNotApart, RelatedWritesAreNeeded};
-ghost use Rattle.law_witness.specs.Refused.{misused, meeting, stopped, by_clocks, by_logs, between, listing_first, load_fails, ShowsOwnRefusals, ShowsMeetings, ShowsStoppedReads, ShowsClocks, ShowsFaults, ShowsComingBetween, ShowsFailedLoad};
 ghost use Rattle.law_witness.specs.Scripts.{run_of, one_session, in_order, read_beside, question_first, lost, end_refused, kept, commit_again, read_own, rows_inside, two_tablets, read_both, rows_of_two, beyond_skew, beyond_skew_script, within_skew, read_unrelated, single_after};
 ghost use Rattle.law_witness.specs.Shows.{ShowsAll, TwoWritersCommit, KeptCommitStands, ReadsInside, ReadsTwoTablets, LeavesOne, PlanIsDone};
 ghost use Rattle.law_witness.specs.Witness.{small, whole, rows, x, committed_at};
 ghost use Rattle.law_witness.specs.Wrong.{WrongEntriesAreRefused};
-ghost use Rattle.law_witness.specs.WrongRefusals.{WrongRefusalsAreRefused};
 ghost use Rattle.std.specs.Prelude.{[]};
 ghost use Rattle.txn_data.specs.declared.command.Command.TheVariants as command;
 ghost use Rattle.txn_data.specs.declared.told.Told.TheVariants as told;
@@ -64,51 +62,6 @@ pub fn a_commit_is_told_ended()
 /// In this run the append of a commit fails and a restart keeps it. Then the abort of that transaction is told Committed.
 pub fn an_abort_is_told_committed()
     ensures { IsTold small (all_done small kept abort_after_commit []) command.Abort (told.Committed x committed_at) }
-{}
-
-/// In this run a session refuses by itself: a put with no transaction open, and a begin and a single write with one open.
-pub fn a_session_refuses_by_itself()
-    ensures { ShowsOwnRefusals (run_of small misused) }
-{}
-
-/// In this run writers meet. One is told Conflict, since the other is pending with its priority. The other is told Aborted, since
-/// the next one has a higher priority. It is told Overlap by a fate, and by a version.
-pub fn writers_are_refused()
-    ensures { ShowsMeetings (run_of small meeting) }
-{}
-
-/// In this run reads are told Restart: a strict one, one after a write, and one after a read of its transaction.
-pub fn reads_are_stopped()
-    ensures { ShowsStoppedReads (run_of small stopped) }
-{}
-
-/// In this run a single write is told LeaseHeld after its tablet restarted, and then a session and a tablet have readings above
-/// the greatest: a begin and a single write are told ClockRange.
-pub fn clocks_refuse()
-    ensures { ShowsClocks (run_of small by_clocks) }
-{}
-
-/// In this run the append of a commit fails, and the commit is told so. Then its session is told InDoubt of a put, and Down of a
-/// second commit.
-pub fn faults_refuse()
-    ensures { ShowsFaults (all_done small lost by_logs []) }
-{}
-
-/// In this run a single write is told Conflict: another write became provisional after its tablet had listed none.
-pub fn a_write_comes_between()
-    ensures { ShowsComingBetween (by_turns small between listing_first []) }
-{}
-
-/// In this run the load of a restart fails. The restart is told so, and then a single write is told Down.
-pub fn a_load_fails()
-    ensures { ShowsFailedLoad load_fails }
-{}
-
-/// Seven refusals and tells that no run has are refused, each after a run: Restart where nothing was met, Conflict with an aborted
-/// transaction, an abort by an equal priority, Overlap below the greatest time, the end of an earlier lease, InDoubt after Down,
-/// and values after Down.
-pub fn wrong_refusals_are_refused()
-    ensures { WrongRefusalsAreRefused }
 {}
 
 /// Two tells that no run has are refused, each after a run: a commit that is told Ended though it committed, and a last pass

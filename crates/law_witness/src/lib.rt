@@ -9,12 +9,10 @@
 mod laws;
 
 pub use laws::{
-    a_commit_is_told_ended, a_kept_commit_stands, a_load_fails, a_plan_is_done,
-    a_read_inside_finishes, a_read_over_two_tablets_restarts, a_run_shows_all,
-    a_session_refuses_by_itself, a_transaction_is_left, a_write_comes_between,
-    an_abort_is_told_committed, clocks_refuse, faults_refuse, freshness_needs_a_related_commit,
-    freshness_needs_a_told_commit, freshness_needs_the_skew, only_related_writes_differ,
-    only_transactions_are_apart, promises_need_one_tablet, reads_are_stopped, two_writers_commit,
-    writers_are_refused, wrong_entries_are_refused, wrong_refusals_are_refused,
+    a_commit_is_told_ended, a_kept_commit_stands, a_plan_is_done, a_read_inside_finishes,
+    a_read_over_two_tablets_restarts, a_run_shows_all, a_transaction_is_left,
+    an_abort_is_told_committed, freshness_needs_a_related_commit, freshness_needs_a_told_commit,
+    freshness_needs_the_skew, only_related_writes_differ, only_transactions_are_apart,
+    promises_need_one_tablet, two_writers_commit, wrong_entries_are_refused,
     wrong_tells_are_refused,
 };

@@ -2,7 +2,7 @@
 use Rattle.std.specs.Prelude.{◌≡◌, ℕ, ◌+◌, Bool, true, false, ◌&&◌, List, [], ◌∷◌, ◌++◌, Option, Some, None, if◌then◌else◌, ◌⊎◌}
 use Rattle.txn_data.specs.declared.actor.Actor.{Actor}
 use Rattle.txn_data.specs.declared.actor.Actor.TheVariants.{Tablet, Status}
-use Rattle.txn_data.specs.declared.append.Append.TheVariants.{Failed}
+use Rattle.txn_data.specs.declared.append.Append.TheVariants.{Took, Failed}
 use Rattle.txn_data.specs.declared.tablet_limit.TabletLimit.{TabletLimit}
 use Rattle.txn_data.specs.declared.command.Command.{Command}
 use Rattle.txn_data.specs.declared.command.Command.TheVariants as command
@@ -16,43 +16,23 @@ use Rattle.txn_data.specs.declared.told.Told.TheVariants as told
 use Rattle.txn_data.specs.declared.told_refusal.ToldRefusal.{ToldRefusal}
 use Rattle.txn_data.specs.declared.told_refusal.ToldRefusal.TheVariants as why
 use Rattle.txn_data.specs.declared.event.Event.{Event}
-use Rattle.txn_data.specs.declared.event.Event.TheVariants.{Ask, Serve, Hear, Tell, Restarted}
+use Rattle.txn_data.specs.declared.event.Event.TheVariants.{Ask, Hear, Tell, Restarted}
 use Rattle.txn_data.specs.declared.entry.Entry.{Entry}
 use Rattle.txn_types.specs.Lists.{Member, or_else}
-use Rattle.txn_types.specs.History.{History, same_actor, is_start, next_restart_kept, stands_in_log}
+use Rattle.txn_types.specs.History.{History, same_actor, is_start}
 use Rattle.txn_types.specs.Committed.{committed_snapshots}
 use Rattle.txn_types.specs.ReadProgram.{limit_of}
 use Rattle.txn_types.specs.Session.{Keeps, Opened, uses_serial, moved_by}
-use Rattle.txn_types.specs.Run.{Mover, mover_at, mover_after}
+use Rattle.txn_types.specs.Run.{mover_after, limits_of}
+use Rattle.txn_types.specs.Reads.{open_txn}
 use Rattle.txn_types.specs.Cause.{ToldAt, ServedAt, served_since}
+use Rattle.txn_promises.specs.Lines.{mover_then, is_begin, is_write, is_end, is_abort_line, is_read, is_single, is_pass, is_restart, is_closing, TellsJust}
 
 -- ## the session
 
--- how far the mover had come when it was told, and what it keeps from then on
-abbrev pub mover_then : Config → ToldAt → Mover
-mover_then config t = mover_at config t.who t.before
-
+-- what the mover keeps from then on
 abbrev pub keeps_told : Config → ToldAt → Keeps
 keeps_told config t = (mover_after config t.who (mover_then config t) t.reading (Tell (mover_then config t).commands t.told)).keeps
-
--- a put or a del
-abbrev pub is_write : Option Command → Bool
-is_write (Some (command.Put place v)) = true
-is_write (Some (command.Del place)) = true
-is_write line = false
-
--- a commit, an abort or an end
-abbrev pub is_end : Option Command → Bool
-is_end (Some command.Commit) = true
-is_end (Some command.Abort) = true
-is_end (Some command.End) = true
-is_end line = false
-
--- a read or a scan
-abbrev pub is_read : Option Command → Bool
-is_read (Some (command.Read strict places)) = true
-is_read (Some (command.Scan strict place)) = true
-is_read line = false
 
 -- Conflict, Overlap or a fault of any log, told to a put or a del, and Aborted end the open transaction
 abbrev pub ends_txn : Option Command → ToldRefusal → Bool
@@ -95,10 +75,6 @@ first_limit m k (e ∷ h) =
     if same_actor e.actor m then (if is_start e.event then None else or_else (first_limit m k h) (limit_heard k e.event))
     else first_limit m k h
 
-abbrev pub limits_open : Option Opened → List TabletLimit
-limits_open None = []
-limits_open (Some x) = x.limits
-
 -- the transaction never commits
 abbrev pub NeverCommits : History → ℕ → Type 0
 NeverCommits h x = (commit : CommittedTxn) → Member commit (committed_snapshots h) → commit.txn ≡ x → ⊥
@@ -117,65 +93,39 @@ pub record SessionLeft (config : Config) (h : History) (t : ToldAt) (refusal : T
   pub opened : (keeps_told config t).opened ≡
       (let m = mover_then config t in opened_left m.line m.limits refusal m.keeps.opened)
   pub limits : (k : ℕ) → limit_of k (mover_then config t).limits ≡
-      or_else (limit_of k (limits_open (mover_then config t).keeps.opened)) (first_limit t.who k t.before)
+      or_else (limit_of k (limits_of (mover_then config t).keeps.opened)) (first_limit t.who k t.before)
   pub ended : Ended h (ends_txn (mover_then config t).line refusal) (mover_then config t).keeps.opened
 
 -- ## the data
 
--- what was served, as an entry with the time that it took
-abbrev pub entry_served : Actor → ServedAt → Option ℕ → Entry
-entry_served m s time = record { actor = s.by; reading = s.reading; event = Serve m s.asked s.reply time s.append }
+-- What may stand in a log of a command that was refused, where the log took it: a lease, from a read or a pass; an abort of a
+-- transaction of lower priority, from a write; the Abort of a put or a del whose refusal ends its transaction; and what a pass
+-- applied, cleaned, noted or forgot.
+abbrev pub MayStand : Option Command → Option Opened → ToldRefusal → Request → Type 0
+MayStand line opened refusal (request.ListRead own_txn paths t g limit) = is_read line ≡ true
+MayStand line opened refusal (request.AskFate x t) = (is_read line ≡ true) ⊎ (is_pass line ≡ true)
+MayStand line opened refusal (request.Resolve x by priority) = (is_write line ≡ true) ⊎ (is_single line ≡ true)
+MayStand line opened refusal (request.Abort x) =
+    (is_write line ≡ true) × (ends_txn line refusal ≡ true) × (open_txn opened ≡ Some x)
+MayStand line opened refusal (request.Apply x at) = is_pass line ≡ true
+MayStand line opened refusal (request.Clean x) = is_pass line ≡ true
+MayStand line opened refusal (request.Applied x tablet) = is_pass line ≡ true
+MayStand line opened refusal asked = ⊥
 
--- a write, a single write, a begin or a commit
-abbrev pub is_data : Request → Bool
-is_data (request.Write meta number path op read seen fates) = true
-is_data (request.Single x path op seen fates) = true
-is_data (request.Begin x isolation priority) = true
-is_data (request.Commit x floor tablets) = true
-is_data asked = false
-
-abbrev pub open_id : Option Opened → Option ℕ
-open_id None = None
-open_id (Some x) = Some x.meta.txn
-
-abbrev pub is_single : Option Command → Bool
-is_single (Some (command.SinglePut place v priority)) = true
-is_single (Some (command.SingleDel place priority)) = true
-is_single line = false
-
-abbrev pub is_pass : Option Command → Bool
-is_pass (Some (command.Apply tablet)) = true
-is_pass line = false
-
--- What besides may stand in a log of a command that was refused: a lease, from a read or a pass; an abort of a transaction of
--- lower priority, from a write; the Abort of the command's own transaction; and what a pass applied, cleaned, noted or forgot.
-abbrev pub MayStand : Option Command → Option Opened → Request → Type 0
-MayStand line opened (request.ListRead own_txn paths t g limit) = is_read line ≡ true
-MayStand line opened (request.AskFate x t) = (is_read line ≡ true) ⊎ (is_pass line ≡ true)
-MayStand line opened (request.Resolve x by priority) = (is_write line ≡ true) ⊎ (is_single line ≡ true)
-MayStand line opened (request.Abort x) = ((is_write line ≡ true) ⊎ (is_end line ≡ true)) × (open_id opened ≡ Some x)
-MayStand line opened (request.Apply x at) = is_pass line ≡ true
-MayStand line opened (request.Clean x) = is_pass line ≡ true
-MayStand line opened (request.Applied x tablet) = is_pass line ≡ true
-MayStand line opened asked = ⊥
-
--- what was asked stands nowhere; or it is the failed piece of the actor that the refusal names, and stands exactly where the
--- next restart of that actor kept it
-abbrev pub Nowhere : List Entry → Actor → ServedAt → Option ℕ → Type 0
-Nowhere later m s time = stands_in_log later (entry_served m s time) ≡ false
-
-abbrev pub AsKept : ToldRefusal → List Entry → Actor → ServedAt → Option ℕ → Type 0
-AsKept refusal later m s time =
-    (refusal ≡ why.LogFault s.by) × (s.append ≡ Failed)
-    × (stands_in_log later (entry_served m s time) ≡ next_restart_kept s.by later)
+-- what a failed piece may be of: any of these, or what the command is for
+abbrev pub MayFail : Option Command → Option Opened → ToldRefusal → Request → Type 0
+MayFail line opened refusal (request.Write meta number path op read seen fates) =
+    (is_write line ≡ true) × (open_txn opened ≡ Some meta.txn)
+MayFail line opened refusal (request.Single x path op seen fates) = is_single line ≡ true
+MayFail line opened refusal (request.Begin x isolation priority) = is_begin line ≡ true
+MayFail line opened refusal (request.Commit x floor tablets) = (line ≡ Some command.Commit) × (open_txn opened ≡ Some x)
+MayFail line opened refusal (request.Abort x) =
+    MayStand line opened refusal (request.Abort x) ⊎ ((is_abort_line line ≡ true) × (open_txn opened ≡ Some x))
+MayFail line opened refusal asked = MayStand line opened refusal asked
 
 abbrev pub asks_single : Request → Bool
 asks_single (request.Single x path op seen fates) = true
 asks_single asked = false
-
-abbrev pub is_restart : Option Command → Bool
-is_restart (Some (command.Restart a)) = true
-is_restart line = false
 
 -- the actors that were restarted for a mover since its last Start, the newest first
 abbrev pub restarted_by : Actor → Entry → List Actor
@@ -186,15 +136,17 @@ restarted_since m [] = []
 restarted_since m (e ∷ h) =
     if same_actor e.actor m && is_start e.event then [] else restarted_by m e ++ restarted_since m h
 
--- What the logs hold of a command that was refused, whatever entries follow. Nothing of a write, a single write, a begin or a
--- commit, but for a failed piece; of the rest only what is named above. A fault of a status tablet told to a single means that
--- its single write was not served. Nothing was restarted, but for a restart that is told out of memory.
+-- What the logs hold of a command that was refused. Of what a log took, only what is named above: so nothing of a write, a
+-- single write, a begin or a commit, nor of an abort or an end that is refused. Where an append failed, just the fault of that
+-- log is told, but for an Abort that closes. By `stands_in_log` a failed piece stands exactly where the next restart of its actor
+-- kept it, and what had nothing to log stands nowhere. A fault of a status tablet told to a single means that its single write
+-- was not served. Nothing was restarted, but for a restart that is told out of memory.
 pub record DataLeft (config : Config) (t : ToldAt) (refusal : ToldRefusal) : Type 0 where
-  pub nothing : (s : ServedAt) (time : Option ℕ) (later : List Entry) → Member s (served_since t.who t.before) → is_data s.asked ≡ true →
-      Nowhere later t.who s time ⊎ AsKept refusal later t.who s time
-  pub besides : (s : ServedAt) (time : Option ℕ) (later : List Entry) → Member s (served_since t.who t.before) → is_data s.asked ≡ false →
-      stands_in_log later (entry_served t.who s time) ≡ true →
-      MayStand (mover_then config t).line (mover_then config t).keeps.opened s.asked
+  pub taken : (s : ServedAt) → Member s (served_since t.who t.before) → s.append ≡ Took →
+      MayStand (mover_then config t).line (mover_then config t).keeps.opened refusal s.asked
+  pub failed : (s : ServedAt) → Member s (served_since t.who t.before) → s.append ≡ Failed →
+      MayFail (mover_then config t).line (mover_then config t).keeps.opened refusal s.asked
+      × (is_closing (mover_then config t).line s.asked ≡ false → TellsJust t.who t.told (why.LogFault s.by))
   pub unwritten : (j : ℕ) → refusal ≡ why.LogFault (Status j) → is_single (mover_then config t).line ≡ true →
       (s : ServedAt) → Member s (served_since t.who t.before) → asks_single s.asked ≡ false
   pub restarts : (a : Actor) → Member a (restarted_since t.who t.before) →
@@ -227,6 +179,13 @@ NothingAsked t refusal = is_early t.who refusal ≡ true → asked_since t.who t
 
 -- ## what ends a refused write
 
+-- An Abort was asked only by a put or a del whose refusal ends its transaction, and by an abort or an end. So a refusal that
+-- leaves the transaction of a put or a del as it was comes with none, and a refused commit asks none.
+abbrev pub AbortsAsked : Config → ToldAt → ToldRefusal → Type 0
+AbortsAsked config t refusal =
+    (x : ℕ) → Member (request.Abort x) (asked_since t.who t.before) →
+    MayFail (mover_then config t).line (mover_then config t).keeps.opened refusal (request.Abort x)
+
 -- none of these is an Abort
 abbrev pub NoAbort : List Request → Type 0
 NoAbort asks = (x : ℕ) → Member (request.Abort x) asks → ⊥
@@ -239,7 +198,7 @@ ClosingAsked x asks = (before : List Request) × (asks ≡ request.Abort x ∷ b
 abbrev pub Closes : Config → ToldAt → ToldRefusal → Type 0
 Closes config t refusal =
     (x : ℕ) → is_write (mover_then config t).line ≡ true → ends_txn (mover_then config t).line refusal ≡ true →
-    open_id (mover_then config t).keeps.opened ≡ Some x → ClosingAsked x (asked_since t.who t.before)
+    open_txn (mover_then config t).keeps.opened ≡ Some x → ClosingAsked x (asked_since t.who t.before)
 
 -- ## all of it
 
@@ -247,6 +206,7 @@ pub record LeftBy (config : Config) (h : History) (t : ToldAt) (refusal : ToldRe
   pub session : SessionLeft config h t refusal
   pub logs : DataLeft config t refusal
   pub asked : NothingAsked t refusal
+  pub aborts : AbortsAsked config t refusal
   pub closing : Closes config t refusal
 
 abbrev pub LeftBehind : Config → History → ToldAt → Told → Type 0

@@ -1,7 +1,6 @@
 -- What the finished reads, the committed transactions and the told commands of a run are promised, in one record over a cluster
 -- and its history.
-use Rattle.std.specs.Prelude.{◌≡◌, ℕ, ◌<◌, true, Some, None}
-use Rattle.txn_data.specs.declared.actor.Actor.TheVariants.{Applier}
+use Rattle.std.specs.Prelude.{◌≡◌, ℕ, ◌<◌, true, Some}
 use Rattle.txn_data.specs.declared.config.Config.{Config}
 use Rattle.txn_data.specs.declared.committed_txn.CommittedTxn.{CommittedTxn}
 use Rattle.txn_data.specs.declared.request.Request.TheVariants as request
@@ -13,11 +12,10 @@ use Rattle.txn_types.specs.Lists.{Member}
 use Rattle.txn_types.specs.History.{History}
 use Rattle.txn_types.specs.Committed.{committed, committed_snapshots}
 use Rattle.txn_types.specs.Cause.{ToldAt, tells, Cause}
-use Rattle.txn_types.specs.Run.{mover_at}
-use Rattle.txn_types.specs.Settled.{SettledBy, last_told}
-use Rattle.txn_types.specs.Reads.{Read, reads, read_time, before_start, IsFinal, Right, SkewHeld, Fresh, Steady, related_writes, Apart}
+use Rattle.txn_types.specs.Reads.{Read, reads, read_time, IsFinal, Right, SkewHeld, Fresh, Steady, related_writes, Apart}
 use Rattle.txn_promises.specs.Answers.{IsAnswered}
-use Rattle.txn_promises.specs.Left.{RestSince}
+use Rattle.txn_promises.specs.Ends.{EndsAsFound, CommittedAsTold}
+use Rattle.txn_promises.specs.Left.{LeftAsTold}
 use Rattle.txn_promises.specs.Leaves.{Leaves}
 use Rattle.txn_promises.specs.Refuses.{Decides}
 
@@ -50,27 +48,23 @@ CommitsDiffer h x y = Member x (committed h) → Member y (committed h) → (x.t
 abbrev pub WritersDoNotOverlap : Config → History → CommittedTxn → CommittedTxn → Type 0
 WritersDoNotOverlap config h x y = Member x (committed_snapshots h) → Member y (committed_snapshots h) → (x.txn ≡ y.txn → ⊥) → related_writes x y ≡ true → Apart config h x y
 
--- the transaction that was told Ended never commits
-abbrev pub EndedForGood : History → ToldAt → Type 0
-EndedForGood h t = (x : ℕ) → t.told ≡ told.Ended x → (y : CommittedTxn) → Member y (committed h) → y.txn ≡ x → ⊥
+-- What is promised of each thing that a session or an applier is told. A refusal has its cause, leaves what it may, and is told
+-- wherever its condition holds, or out of memory in its place. Anything else is an answer of the command. Ended and Committed are
+-- told as the record was found, what was told Ended stays so, and what was told Committed is a commit at that time.
+pub record ToldKeeps (config : Config) (h : History) (t : ToldAt) : Type 0 where
+  pub cause : Cause config t
+  pub answer : IsAnswered config t
+  pub leaves : Leaves config h t
+  pub decides : Decides config t
+  pub ends : EndsAsFound config h t
+  pub commits : (x at : ℕ) → t.told ≡ told.Committed x at → CommittedAsTold h x at
 
--- The applier has no pass under way, and no session had a command under way since its last pass began: then its tablet is
--- settled with the number that this pass told.
-abbrev pub LeftAsTold : Config → History → ℕ → Type 0
-LeftAsTold config h k =
-    (mover_at config (Applier k) h).line ≡ None → RestSince config (before_start (Applier k) h) h → SettledBy h k (last_told (Applier k) h)
-
--- Besides, what a session or an applier is told is an answer of its command, or a refusal. Each refusal has its cause, leaves
--- what it may, and is told wherever its condition holds, or out of memory in its place. What was told Ended stays so, and once all
--- is at rest a tablet has what its last pass told.
+-- All of a run: its finished reads, its committed transactions, what its movers are told, and what the last pass over a tablet
+-- has left once all is at rest.
 pub record Promises (config : Config) (h : History) : Type 0 where
   pub reads_keep : (read : Read) → Member read (reads h) → ReadKeeps config h read
   pub commits_keep : (x : CommittedTxn) → Member x (committed_snapshots h) → CommitKeeps config h x
   pub commits_differ : (x y : CommittedTxn) → CommitsDiffer h x y
   pub writers_apart : (x y : CommittedTxn) → WritersDoNotOverlap config h x y
-  pub causes : (t : ToldAt) → Member t (tells h) → Cause config t
-  pub answers : (t : ToldAt) → Member t (tells h) → IsAnswered config t
-  pub leaves : (t : ToldAt) → Member t (tells h) → Leaves config h t
-  pub decides : (t : ToldAt) → Member t (tells h) → Decides config t
-  pub ended : (t : ToldAt) → Member t (tells h) → EndedForGood h t
+  pub tells_keep : (t : ToldAt) → Member t (tells h) → ToldKeeps config h t
   pub left : (k : ℕ) → LeftAsTold config h k

@@ -1,10 +1,7 @@
 -- Where a refusal is told: what is told of a command whose request met a condition, and of one that was refused at once.
-use Rattle.std.specs.Prelude.{◌≡◌, ℕ, ◌<◌, ◌≤◌, Bool, true, false, ◌&&◌, List, Option, Some, None, max, ◌⊎◌}
+use Rattle.std.specs.Prelude.{◌≡◌, ℕ, ◌<◌, ◌≤◌, true, false, List, ◌∷◌, ◌++◌, Option, Some, None, max}
 use Rattle.hybrid_time.specs.Time.{micros_of, logical_of, greatest_reading}
 use Rattle.doc_path.specs.Path.{Parts}
-use Rattle.txn_data.specs.declared.actor.Actor.{Actor}
-use Rattle.txn_data.specs.declared.actor.Actor.TheVariants.{Session}
-use Rattle.txn_data.specs.declared.command.Command.{Command}
 use Rattle.txn_data.specs.declared.config.Config.{Config}
 use Rattle.txn_data.specs.declared.found.Found.{Found}
 use Rattle.txn_data.specs.declared.request.Request.{Request}
@@ -12,9 +9,7 @@ use Rattle.txn_data.specs.declared.request.Request.TheVariants as request
 use Rattle.txn_data.specs.declared.reply.Reply.TheVariants as reply
 use Rattle.txn_data.specs.declared.refusal.Refusal.{Refusal}
 use Rattle.txn_data.specs.declared.refusal.Refusal.TheVariants as refusal
-use Rattle.txn_data.specs.declared.told.Told.{Told}
 use Rattle.txn_data.specs.declared.told.Told.TheVariants as told
-use Rattle.txn_data.specs.declared.told_refusal.ToldRefusal.{ToldRefusal}
 use Rattle.txn_data.specs.declared.told_refusal.ToldRefusal.TheVariants as why
 use Rattle.txn_types.specs.Lists.{Member, or_zero}
 use Rattle.txn_types.specs.History.{History}
@@ -25,20 +20,8 @@ use Rattle.txn_types.specs.Status.{record_of}
 use Rattle.txn_types.specs.Program.{refusal_told}
 use Rattle.txn_types.specs.Session.{IsOpen}
 use Rattle.txn_types.specs.Reads.{before_start}
-use Rattle.txn_types.specs.Run.{Mover}
-use Rattle.txn_types.specs.Cause.{ToldAt, ServedAt, served_since, own_then, newcomers, WritesFor, needs_time, floor_asked, IsRestart, is_strict, wrote_or_read, needs_open, needs_closed, works_inside, InDoubt}
-use Rattle.txn_promises.specs.Leaves.{mover_then, is_write}
-
--- ## what is told
-
--- just this refusal; an applier may be told out of memory instead
-abbrev pub TellsJust : Actor → Told → ToldRefusal → Type 0
-TellsJust (Session i) t w = t ≡ told.Refused w
-TellsJust m t w = (t ≡ told.Refused w) ⊎ (t ≡ told.Refused why.Memory)
-
--- this refusal, or out of memory
-abbrev pub TellsOrMemory : Told → ToldRefusal → Type 0
-TellsOrMemory t w = (t ≡ told.Refused w) ⊎ (t ≡ told.Refused why.Memory)
+use Rattle.txn_types.specs.Cause.{ToldAt, ServedAt, served_since, own_then, newcomers, WritesFor, needs_time, floor_asked, IsRestart, MetAndStopped, needs_open, needs_closed, works_inside, InDoubt}
+use Rattle.txn_promises.specs.Lines.{mover_then, is_closing, TellsJust, TellsOrMemory}
 
 -- ## where a request meets the row of a refusal, with no earlier row in its place
 
@@ -80,25 +63,17 @@ Meets lease o reading asked refusal.Memory = ⊥
 
 -- ## what was heard decides what is told
 
--- the Abort that a put or a del asks after a refusal: whatever it is answered is told to nobody
-abbrev pub is_abort : Request → Bool
-is_abort (request.Abort x) = true
-is_abort asked = false
-
-abbrev pub is_closing : Option Command → Request → Bool
-is_closing line asked = is_abort asked && is_write line
-
--- the read may not restart: it says so, or its transaction has written or read
-abbrev pub MayNotRestart : Mover → Type 0
-MayNotRestart m = (is_strict m.line ≡ true) ⊎ (wrote_or_read m.keeps.opened ≡ true)
-
--- For each request that was served for the command. One that was refused, or that met the row of a refusal, ends the command
--- with just that refusal, in the name of the actor that was asked. So where a write met others on a related path that the
--- command's listing had not found, Conflict is told with the least of them. Where a Resolve was answered Pending, Conflict is told;
--- where a Commit was answered aborted, Aborted; where a Collect met something and the read may not restart, Restart.
+-- For each request that was served for the command. If it was refused, or if it met the row of a refusal, just that refusal is
+-- told, in the name of the actor that was asked; an applier may be told out of memory instead. Nothing is served for the command
+-- after it but the Abort that closes. So where a write met others on a related path that the command's listing had not found,
+-- Conflict is told with the least of them. Where a Resolve was answered Pending, Conflict is told, and where a Collect met
+-- something and the read may not restart, Restart, or each of them out of memory. Where a Commit was answered aborted, Aborted is
+-- told.
 pub record HeardDecides (config : Config) (t : ToldAt) : Type 0 where
   pub refused : (s : ServedAt) (r : Refusal) → Member s (served_since t.who t.before) → s.reply ≡ reply.Refused r →
       is_closing (mover_then config t).line s.asked ≡ false → TellsJust t.who t.told (refusal_told s.by r)
+  pub ends : (newer older : List ServedAt) (s : ServedAt) (r : Refusal) → served_since t.who t.before ≡ newer ++ (s ∷ older) →
+      s.reply ≡ reply.Refused r → (u : ServedAt) → Member u newer → is_closing (mover_then config t).line u.asked ≡ true
   pub rows : (s : ServedAt) (r : Refusal) → Member s (served_since t.who t.before) →
       Meets config.lease_us (own_then s) s.reading s.asked r →
       is_closing (mover_then config t).line s.asked ≡ false → TellsJust t.who t.told (refusal_told s.by r)
@@ -113,8 +88,7 @@ pub record HeardDecides (config : Config) (t : ToldAt) : Type 0 where
   pub aborted : (s : ServedAt) (x floor by : ℕ) (tablets : List ℕ) → Member s (served_since t.who t.before) →
       s.asked ≡ request.Commit x floor tablets → down_since (own_then s) ≡ None →
       record_of x (own_then s) ≡ status.AbortedBy by → t.told ≡ told.Refused (why.Aborted by)
-  pub met : (s : ServedAt) (at : ℕ) (path : Parts) → Member s (served_since t.who t.before) → s.reply ≡ reply.Met at path →
-      MayNotRestart (mover_then config t) → TellsOrMemory t.told (why.Restart at path)
+  pub met : (at : ℕ) (path : Parts) → MetAndStopped config t.who t.before at path → TellsOrMemory t.told (why.Restart at path)
 
 -- ## what is refused at once
 

@@ -1,0 +1,4 @@
+pub mod Refused
+pub mod Faults
+pub mod Clocks
+pub mod WrongRefusals

@@ -1,5 +1,0 @@
-use Rattle.law_witness.proofs.Refused.{shows_failed_load}
-use Rattle.law_witness.proofs.laws.a_load_fails.Goals as goal
-
-pub returns : goal.returns
-returns c = shows_failed_load

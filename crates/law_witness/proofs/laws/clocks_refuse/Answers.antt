@@ -1,5 +1,0 @@
-use Rattle.law_witness.proofs.Refused.{shows_clocks}
-use Rattle.law_witness.proofs.laws.clocks_refuse.Goals as goal
-
-pub returns : goal.returns
-returns c = shows_clocks

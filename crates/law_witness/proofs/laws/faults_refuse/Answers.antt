@@ -1,5 +1,0 @@
-use Rattle.law_witness.proofs.Refused.{shows_faults}
-use Rattle.law_witness.proofs.laws.faults_refuse.Goals as goal
-
-pub returns : goal.returns
-returns c = shows_faults
