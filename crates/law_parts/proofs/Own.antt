@@ -9,6 +9,7 @@ use Rattle.txn_data.specs.declared.event.Event.TheVariants.{Start, Ask, Serve, H
 use Rattle.txn_data.specs.declared.entry.Entry.{Entry}
 use Rattle.txn_data.specs.declared.config.Config.{Config}
 use Rattle.txn_types.specs.History.{History, same_actor, own}
+use Rattle.txn_types.specs.Script.{asker}
 use Rattle.txn_types.specs.Run.{Mover, mover_at, mover_after, Flight, Quiet, Asked, Answered, flight, flight_after, CanHear}
 use Rattle.law_machines.proofs.Basics.{test_cases, same_true}
 use Rattle.law_parts.specs.Parts.{waits, waits_after, MessagesMatch, Matches}
@@ -58,6 +59,18 @@ heard_moving (Answered by answer) from r can = refl
 flight_step : (a : Actor) (e : Entry) (h : History) → flight a (e ∷ h) ≡ flight_after a (flight a h) e.actor e.event
 unfolding flight
 flight_step a e h = refl
+
+-- an entry moves the message of the mover that it is of, and of no other
+flight_still : (b : Actor) (f : Flight) (by : Actor) (event : Event) → same_actor (elim event [ Serve from asked r time append ↦ from | Restarted from kept ↦ from | _ ↦ by ]) b ≡ false → flight_after b f by event ≡ f
+flight_still b f by (Start number line) other = refl
+flight_still b f by (Ask to asked) other = rw other refl
+flight_still b f by (Serve from asked r time append) other = rw other refl
+flight_still b f by (Hear from r) other = rw other refl
+flight_still b f by (Tell number t) other = refl
+flight_still b f by (Restarted from kept) other = rw other refl
+
+pub flight_other : (b : Actor) (e : Entry) (h : History) → same_actor (asker e) b ≡ false → flight b (e ∷ h) ≡ flight b h
+flight_other b e h other = flight_step b e h ∙ flight_still b (flight b h) e.actor e.event other
 
 waits_step : (e : Entry) (h : History) → waits (e ∷ h) ≡ waits_after (waits h) e.event
 unfolding waits

@@ -10,7 +10,7 @@ use Rattle.txn_types.specs.Program as program
 use Rattle.txn_types.specs.Program.{turn_with}
 use Rattle.txn_types.specs.Run.{Mover, flight, MayStart, CanTell, IsUnderWay, Allowed, Steps}
 use Rattle.law_machines.proofs.Basics.{test_cases, same_true, same_refl}
-use Rattle.law_parts.specs.Parts.{OwnAllowed, OwnSteps, Matches, MessagesMatch, PartsMakeARun, RunsHaveParts}
+use Rattle.law_parts.specs.Parts.{OwnAllowed, OwnSteps, Matches, MessagesMatch, PartsMakeARun, RunsHaveParts, OneMoreIsARun}
 use Rattle.law_parts.proofs.Own.{own_same, own_other, mover_of_own, is_moving, quiet_of, heard_moving, moving_is, matches_before}
 
 -- one entry: allowed over the whole where it is allowed over the actor's own and its message matches, and the other way
@@ -115,3 +115,7 @@ parts_run config h parts = (parts.cluster, steps_of config h parts.actors parts.
 
 pub run_parts : RunsHaveParts
 run_parts config h run = record { cluster = run.0; actors = own_of config h run.1; messages = match_of config h run.1 }
+
+pub one_more : OneMoreIsARun
+unfolding Steps
+one_more config h e run allowed fits = (run.0, (run.1, to_whole config h e.actor e.reading e.event (match_of config h run.1) allowed fits))

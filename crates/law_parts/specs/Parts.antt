@@ -5,6 +5,7 @@ use Rattle.txn_data.specs.declared.event.Event.{Event}
 use Rattle.txn_data.specs.declared.event.Event.TheVariants.{Start, Ask, Serve, Hear, Tell, Restarted}
 use Rattle.txn_data.specs.declared.request.Request.TheVariants as request
 use Rattle.txn_data.specs.declared.config.Config.{Config}
+use Rattle.txn_data.specs.declared.entry.Entry.{Entry}
 use Rattle.txn_types.specs.History.{History, own}
 use Rattle.txn_types.specs.Program as program
 use Rattle.txn_types.specs.Program.{turn_with}
@@ -64,3 +65,7 @@ PartsMakeARun = (config : Config) (h : History) → Parts config h → Run confi
 
 abbrev pub RunsHaveParts : Type 0
 RunsHaveParts = (config : Config) (h : History) → Run config h → Parts config h
+
+-- a run with one entry more, which its actor may do over its own entries and which matches the messages, is a run
+abbrev pub OneMoreIsARun : Type 0
+OneMoreIsARun = (config : Config) (h : History) (e : Entry) → Run config h → OwnAllowed config e.actor (own e.actor h) e.reading e.event → Matches e.actor e.event h → Run config (e ∷ h)
