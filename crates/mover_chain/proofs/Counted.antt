@@ -27,10 +27,10 @@ use Rattle.mover_chain.proofs.States.{IsMoving, session_left, session_has, appli
 use Rattle.mover_chain.proofs.Left.{beside_step, beside_first, moves_step, moves_first, Goes, left_is}
 
 -- who moves where an event is no answer of a machine
-abbrev mover_of : Actor → Event → Actor
+abbrev pub mover_of : Actor → Event → Actor
 mover_of a event = elim event [ Serve from asked r time append ↦ from | Restarted from kept ↦ from | _ ↦ a ]
 
-moves_as : (a : Actor) (e : Entry) (event : Event) → e.event ≡ event → same_actor (asker e) a ≡ true → same_actor (mover_of e.actor event) a ≡ true
+pub moves_as : (a : Actor) (e : Entry) (event : Event) → e.event ≡ event → same_actor (asker e) a ≡ true → same_actor (mover_of e.actor event) a ≡ true
 moves_as a e event is mine = subst (λ (v : Event). same_actor (mover_of e.actor v) a ≡ true) is mine
 
 -- ## sessions
@@ -98,7 +98,7 @@ session_goes config i planned (e ∷ h) steps front = (
   λ comes. session_needs config i planned e h steps front (sym (and-true (same_actor (asker e) (Session i))) ∙ comes),
 )
 
-session_named : (config : Config) (i : ℕ) (h : History) → named (Session i) (moves h) ≡ entries_beside config (Session i) h
+pub session_named : (config : Config) (i : ℕ) (h : History) → named (Session i) (moves h) ≡ entries_beside config (Session i) h
 session_named config i [] = moves_first (Session i) ∙ sym (beside_first config (Session i))
 session_named config i (e ∷ h) =
     moves_step (Session i) e h ∙ ap (λ n. n + (if same_actor (asker e) (Session i) then 1 else 0)) (session_named config i h)
@@ -124,7 +124,7 @@ of_session config plan later g p steps whole member =
 
 -- ## an actor that starts nothing makes no moves
 
-abbrev IsIdle : Config → Actor → History → Type 0
+abbrev pub IsIdle : Config → Actor → History → Type 0
 IsIdle config a h = (mover_at config a h).line ≡ None
 
 -- before its first line a mover is idle, and no transaction is open
@@ -136,7 +136,7 @@ under_none : (line : Option Command) → line ≡ None → IsUnderWay line → �
 under_none line is under = subst IsUnderWay is under
 
 -- an entry that is no start is not the move of an idle mover
-idle_makes_none : (config : Config) (a : Actor) (e : Entry) (h : History) → Steps config (e ∷ h) → IsIdle config a h → same_actor (asker e) a ≡ true →
+pub idle_makes_none : (config : Config) (a : Actor) (e : Entry) (h : History) → Steps config (e ∷ h) → IsIdle config a h → same_actor (asker e) a ≡ true →
     (number : ℕ) × (line : Command) × (e.event ≡ Start number line) × (same_actor e.actor a ≡ true)
 idle_makes_none config a e h steps idle_now mine = by_event e.event refl
   where
@@ -265,10 +265,10 @@ late_none : (passes begun : ℕ) (line : Option Command) → passes < begun → 
 late_none passes begun (Some l) late = le-ltb begun (passes + 1) (omega (arith, late))
 late_none passes begun None late = le-ltb begun passes (omega (arith, late))
 
-begun_by : (a : Actor) (e : Entry) (h : History) (event : Event) → e.event ≡ event → same_actor e.actor a ≡ true → started a (e ∷ h) ≡ started a h + length (line_by event)
+pub begun_by : (a : Actor) (e : Entry) (h : History) (event : Event) → e.event ≡ event → same_actor e.actor a ≡ true → started a (e ∷ h) ≡ started a h + length (line_by event)
 begun_by a e h event is own = ap length (lines_own a e h own) ∙ rw is (length-append (lines a h) (line_by event))
 
-begun_still : (a : Actor) (e : Entry) (h : History) (event : Event) → e.event ≡ event → line_by event ≡ [] → started a (e ∷ h) ≡ started a h
+pub begun_still : (a : Actor) (e : Entry) (h : History) (event : Event) → e.event ≡ event → line_by event ≡ [] → started a (e ∷ h) ≡ started a h
 begun_still a e h event is none = elim (test_cases (same_actor e.actor a)) [
   | inl own ↦ begun_by a e h event is own ∙ rw none (omega arith)
   | inr other ↦ ap length (lines_other a e h other)
@@ -319,7 +319,7 @@ applier_goes config k (e ∷ h) steps = (
 )
 
 -- as long as no more passes were begun than are made beside the sessions, each move is counted
-begun_grows : (a : Actor) (e : Entry) (h : History) → started a h ≤ started a (e ∷ h)
+pub begun_grows : (a : Actor) (e : Entry) (h : History) → started a h ≤ started a (e ∷ h)
 begun_grows a e h = elim (test_cases (same_actor e.actor a)) [
   | inl own ↦ rw (begun_by a e h e.event refl own) (omega arith)
   | inr other ↦ rw (ap length (lines_other a e h other)) (omega arith)
@@ -364,7 +364,7 @@ still_left config plan later g i steps none empty =
     (λ some. let same = session_named config i g in omega (arith, same))
 
 -- a session with lines is one of the plan
-planned_session : (i : ℕ) (sessions : List SessionPlan) (line : Command) (more : List Command) → commands_of i sessions ≡ line ∷ more → (p : SessionPlan) × Member p sessions × (p.session ≡ i)
+pub planned_session : (i : ℕ) (sessions : List SessionPlan) (line : Command) (more : List Command) → commands_of i sessions ≡ line ∷ more → (p : SessionPlan) × Member p sessions × (p.session ≡ i)
 unfolding commands_of
 planned_session i [] line more is = absurd (let not : [] ≡ line ∷ more = is in cc)
 planned_session i (p ∷ ps) line more is = elim (test_cases (nat_eq p.session i)) [

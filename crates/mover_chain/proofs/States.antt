@@ -120,14 +120,14 @@ same_mover config a e h mover begun = record {
 other_same : (config : Config) (a : Actor) (e : Entry) (h : History) → same_actor e.actor a ≡ false → Same config a h (e ∷ h)
 other_same config a e h other = same_mover config a e h (mover_other config a e h other) (lines_other a e h other)
 
-quiet_mover : (config : Config) (a : Actor) (e : Entry) (h : History) → ((m : Mover) → mover_after config a m e.reading e.event ≡ m) → mover_at config a (e ∷ h) ≡ mover_at config a h
+pub quiet_mover : (config : Config) (a : Actor) (e : Entry) (h : History) → ((m : Mover) → mover_after config a m e.reading e.event ≡ m) → mover_at config a (e ∷ h) ≡ mover_at config a h
 quiet_mover config a e h still = elim (test_cases (same_actor e.actor a)) [
   | inl own ↦ mover_own config a e h own ∙ still (mover_at config a h)
   | inr other ↦ mover_other config a e h other
 ]
 
 -- an entry in which a machine answers changes nothing of any mover's lines
-quiet_same : (config : Config) (a : Actor) (e : Entry) (h : History) → ((m : Mover) → mover_after config a m e.reading e.event ≡ m) → line_by e.event ≡ [] → Same config a h (e ∷ h)
+pub quiet_same : (config : Config) (a : Actor) (e : Entry) (h : History) → ((m : Mover) → mover_after config a m e.reading e.event ≡ m) → line_by e.event ≡ [] → Same config a h (e ∷ h)
 quiet_same config a e h still none = elim (test_cases (same_actor e.actor a)) [
   | inl own ↦ same_mover config a e h (mover_own config a e h own ∙ still (mover_at config a h)) (lines_own a e h own ∙ rw none (append-nil (lines a h)))
   | inr other ↦ other_same config a e h other

@@ -1,0 +1,11 @@
+mod Moving
+mod Counting
+mod Telling
+mod Silent
+mod Passing
+mod Ordering
+mod Ending
+mod Going
+mod Few
+mod Doing
+mod Scheduling
