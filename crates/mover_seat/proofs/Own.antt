@@ -1,20 +1,22 @@
 -- One more entry of a mover's own.
-use Rattle.std.proofs.Common.{◌≡◌, ℕ, Bool, true, false, [], ◌∷◌, ◌++◌, Option, refl, sym, ap, ◌∙◌, subst, if◌then◌else◌}
+use Rattle.std.proofs.Common.{◌≡◌, ℕ, Bool, true, false, [], ◌∷◌, ◌++◌, Option, Some, None, refl, ap, ◌∙◌}
 use Rattle.txn_data.specs.declared.actor.Actor.{Actor}
 use Rattle.txn_data.specs.declared.config.Config.{Config}
 use Rattle.txn_data.specs.declared.entry.Entry.{Entry}
 use Rattle.txn_data.specs.declared.event.Event.{Event}
 use Rattle.txn_data.specs.declared.event.Event.TheVariants.{Start, Ask, Serve, Hear, Tell, Restarted}
 use Rattle.txn_data.specs.declared.reply.Reply.{Reply}
+use Rattle.txn_data.specs.declared.reply.Reply.TheVariants as reply
+use Rattle.txn_data.specs.declared.refusal.Refusal.TheVariants as refusal
 use Rattle.txn_types.specs.History.{History, same_actor}
-use Rattle.txn_types.specs.Run.{Mover, Flight, Answered, idle, mover_at, mover_after, flight_after}
+use Rattle.txn_types.specs.Run.{Mover, Flight, Quiet, Asked, Answered, idle, mover_at, mover_after, flight_after}
 use Rattle.txn_types.specs.Script.{lines, line_by}
 use Rattle.law_machines.proofs.Basics.{same_of, same_refl}
 use Rattle.law_parts.specs.Parts.{OwnAllowed, waits, waits_after}
-use Rattle.mover_chain.specs.NextEvent.{NextEvent}
+use Rattle.mover_chain.specs.NextEvent.{NextEvent, is_left}
 use Rattle.mover_seat.specs.Made.{MayMake, Makes}
-use Rattle.mover_seat.specs.Stage.{is_waiting}
-use Rattle.mover_seat.specs.Step.{IsStep}
+use Rattle.mover_seat.specs.Stage.{awaited, is_waiting}
+use Rattle.mover_seat.specs.Step.{HearsMemory, IsStep}
 use Rattle.mover_seat.specs.declared.made.Made.{Made}
 
 mover_same : (config : Config) (a : Actor) (e : Entry) (g : History) → same_actor e.actor a ≡ true → mover_at config a (e ∷ g) ≡ mover_after config a (mover_at config a g) e.reading e.event
@@ -79,6 +81,39 @@ step_is config a by next reading g f made is waiting makes = record {
   reads = makes.reads;
   moved = makes.moved;
 }
+
+-- ## out of memory in place of a reply
+
+pub waits_asked : (f : Flight) (to : Actor) → awaited f ≡ Some to → is_waiting f ≡ true
+waits_asked Quiet to is = cc
+waits_asked (Asked by asked) to is = refl
+waits_asked (Answered from r) to is = cc
+
+-- where a reply came, it is heard next
+pub only_hears : (config : Config) (a : Actor) (m : Mover) (to : Actor) (r : Reply) (reading : Option ℕ) (event : Event) → MayMake config a m (Answered to r) reading event → (reading ≡ None) × (event ≡ Hear to r)
+only_hears config a m to r reading (Start number line) may = let never : Answered to r ≡ Quiet = may.4 in cc
+only_hears config a m to r reading (Ask by asked) may = let never : Answered to r ≡ Quiet = may.1 in cc
+only_hears config a m to r reading (Hear from q) may = let same : Answered to r ≡ Answered from q = may.1 in (may.0, cc)
+only_hears config a m to r reading (Tell number t) may = let never : Answered to r ≡ Quiet = may.1 in cc
+only_hears config a m to r reading (Serve from asked q time append) may = absurd may
+only_hears config a m to r reading (Restarted from kept) may = absurd may
+
+abbrev pub lost_reply : Reply
+lost_reply = reply.Refused refusal.Memory
+
+-- what is made then is heard in its place
+pub memory_is : (config : Config) (a by : Actor) (next then_next : NextEvent) (reading : ℕ) (g : History) (to : Actor) (made : Made) → by ≡ a → is_left next ≡ true → waits g ≡ true → Makes config a then_next (mover_at config a g) (Answered to lost_reply) reading made →
+    HearsMemory config a next g to (record { entry = record { actor = by; reading = made.reading; event = made.event }; moved = made.moved })
+memory_is config a by next then_next reading g to made is left waiting makes =
+    let hears = only_hears config a (mover_at config a g) to lost_reply made.reading made.event makes.may in
+    record {
+      left = left;
+      actor = is;
+      allowed = allowed_of config a g (Answered to lost_reply) made.reading made.event waiting makes.may;
+      hears = hears.1;
+      reading = hears.0;
+      moved = makes.moved;
+    }
 
 -- ## before the first entry
 

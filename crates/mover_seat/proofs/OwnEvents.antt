@@ -1,4 +1,4 @@
--- What a mover does next depends on its own entries alone, besides the message on its way.
+-- What a mover does next, and of which command or pass, depends on its own entries alone, besides the message on its way.
 use Rattle.std.proofs.Common.{◌≡◌, ℕ, Bool, true, false, List, [], ◌∷◌, ◌++◌, refl, sym, ap, ◌∙◌, inl, inr, length, nat_lt, if◌then◌else◌}
 use Rattle.txn_data.specs.declared.actor.Actor.{Actor}
 use Rattle.txn_data.specs.declared.actor.Actor.TheVariants.{Tablet, Status, Session, Applier}
@@ -6,13 +6,13 @@ use Rattle.txn_data.specs.declared.command.Command.{Command}
 use Rattle.txn_data.specs.declared.config.Config.{Config}
 use Rattle.txn_data.specs.declared.entry.Entry.{Entry}
 use Rattle.txn_types.specs.History.{History, same_actor, own}
-use Rattle.txn_types.specs.Run.{Mover, Flight, flight, mover_at}
+use Rattle.txn_types.specs.Run.{Mover, flight, mover_at}
 use Rattle.txn_types.specs.Script.{lines, line_by, started, commands_of}
 use Rattle.law_machines.proofs.Basics.{test_cases}
 use Rattle.law_parts.proofs.Own.{mover_of_own, own_same, own_other}
-use Rattle.mover_chain.specs.NextEvent.{Given, NextEvent, NoneLeft, next_event, all_done}
-use Rattle.mover_seat.specs.Laws.{EventsAreOwn}
-use Rattle.mover_seat.specs.NextEvent.{session_from, applier_from, own_event}
+use Rattle.mover_chain.specs.NextEvent.{NextEvent, NoneLeft, all_done, number_of_next}
+use Rattle.mover_seat.specs.Laws.{EventsAreOwn, NumbersAreOwn}
+use Rattle.mover_seat.specs.NextEvent.{session_from, applier_from}
 
 lines_own : (a : Actor) (e : Entry) (h : History) → same_actor e.actor a ≡ true → lines a (e ∷ h) ≡ lines a h ++ line_by e.event
 unfolding lines
@@ -48,3 +48,8 @@ own_events given config (Session i) h = session_own (commands_of i given.session
 own_events given config (Applier k) h = ap (λ (n : NextEvent). if nat_lt k config.tablets then n else NoneLeft) (applier_own (all_done given config h) config k h)
 own_events given config (Tablet k) h = refl
 own_events given config (Status j) h = refl
+
+pub own_numbers : NumbersAreOwn
+own_numbers config a h =
+    ap (λ (ls : List Command). number_of_next (length ls) (mover_at config a h).line) (sym (lines_of_own a h))
+    ∙ ap (λ (m : Mover). number_of_next (started a (own a h)) m.line) (sym (mover_of_own config a h))

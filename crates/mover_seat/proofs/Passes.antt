@@ -1,5 +1,5 @@
 -- What an applier makes next, and where it then stands.
-use Rattle.std.proofs.Common.{◌≡◌, ℕ, ◌+◌, ◌<◌, ◌≤◌, Bool, true, false, ◌&&◌, List, [], ◌∷◌, ◌++◌, Option, Some, None, length, nat_lt, nat_eq, refl, sym, ap, ◌∙◌, subst, inl, inr, ◌⊎◌, add-zero, arith, if◌then◌else◌}
+use Rattle.std.proofs.Common.{◌≡◌, ℕ, ◌+◌, ◌<◌, ◌≤◌, Bool, true, false, ◌&&◌, [], ◌∷◌, Option, Some, None, length, nat_lt, nat_eq, refl, sym, ap, ◌∙◌, subst, inl, inr, ◌⊎◌, add-zero, arith, if◌then◌else◌}
 use Rattle.std.proofs.lemmas.List.{length-append}
 use borrow.Author.Tests.{ltb-true}
 use Rattle.txn_data.specs.declared.actor.Actor.{Actor}
@@ -8,7 +8,7 @@ use Rattle.txn_data.specs.declared.command.Command.{Command}
 use Rattle.txn_data.specs.declared.command.Command.TheVariants as command
 use Rattle.txn_data.specs.declared.config.Config.{Config}
 use Rattle.txn_data.specs.declared.entry.Entry.{Entry}
-use Rattle.txn_data.specs.declared.event.Event.TheVariants.{Start, Ask, Hear, Tell}
+use Rattle.txn_data.specs.declared.event.Event.TheVariants.{Start, Hear}
 use Rattle.txn_data.specs.declared.reply.Reply.{Reply}
 use Rattle.txn_data.specs.declared.request.Request.{Request}
 use Rattle.txn_data.specs.declared.told.Told.{Told}
@@ -16,14 +16,13 @@ use Rattle.txn_data.specs.declared.told.Told.TheVariants as told
 use Rattle.txn_data.specs.declared.told_refusal.ToldRefusal.TheVariants as told_refusal
 use Rattle.txn_types.specs.History.{History}
 use Rattle.txn_types.specs.PassProgram.{pass_program}
-use Rattle.txn_types.specs.Program as program
 use Rattle.txn_types.specs.Program.{Program, Done, Asks, Reads, turn, turn_with, with_reading, heard}
-use Rattle.txn_types.specs.Run.{Mover, Flight, Quiet, Answered, mover_at, mover_after, flight_after, CanTell, IsUnderWay}
+use Rattle.txn_types.specs.Run.{Mover, Flight, Quiet, Answered, mover_at, mover_after, flight_after, IsUnderWay}
 use Rattle.txn_types.specs.Script.{line_by, lines, started}
-use Rattle.law_machines.proofs.Basics.{eq_true, same_refl}
+use Rattle.law_machines.proofs.Basics.{eq_true}
 use Rattle.intent_applier.specs.Rest.{rest}
 use Rattle.intent_applier.specs.declared.pass.Pass.{Pass}
-use Rattle.mover_chain.specs.NextEvent.{NextEvent, NoneLeft, Starts, pass_starts, is_left}
+use Rattle.mover_chain.specs.NextEvent.{NoneLeft, Starts, pass_starts, is_left}
 use Rattle.mover_seat.specs.Made.{starts_made, asks_made, hears_made, tells_made}
 use Rattle.mover_seat.specs.NextEvent.{applier_from}
 use Rattle.mover_seat.specs.Pass.{GoesOn, IsLost, HasCome, Comes, begins, does_hold}
@@ -175,6 +174,20 @@ heard_pass config k done begun m f before after p from r at come held on =
       },
       sym (add-zero begun),
     )
+
+-- a reply to what it asked came
+pub reply_pass : (config : Config) (k begun : ℕ) (m : Mover) (f : Flight) (pass : Option Pass) (from to : Actor) (r : Reply) → HasCome config k begun m f pass (stage.Awaits from) → awaited f ≡ Some to → HasCome config k begun m (Answered to r) pass (stage.Hears from r)
+reply_pass config k begun m f pass from to r come goes =
+    let there : awaited f ≡ Some from = come.stage.1 in
+    let same : to ≡ from = cc in
+    record {
+      there = come.there;
+      commands = come.commands;
+      stage = (come.stage.0, ap (λ (a : Actor). Answered a r) same);
+      rest = come.rest;
+      may_lose = come.may_lose;
+      line = come.line;
+    }
 
 -- ## before the first pass
 

@@ -1,6 +1,6 @@
 -- What a session makes next, and where it then stands.
-use Rattle.std.proofs.Common.{◌≡◌, ℕ, ◌+◌, ◌<◌, ◌≤◌, ◌%◌, ◌^◌, Bool, true, false, ◌&&◌, ◌||◌, not, List, [], ◌∷◌, ◌++◌, Option, Some, None, refl, sym, ap, ◌∙◌, subst, inl, inr, arith, if◌then◌else◌}
-use Rattle.std.specs.Prelude.{Result, Ok, Err, is_some}
+use Rattle.std.proofs.Common.{◌≡◌, ℕ, ◌+◌, ◌<◌, ◌≤◌, ◌%◌, ◌^◌, Bool, true, false, ◌&&◌, not, List, [], ◌∷◌, ◌++◌, Option, Some, None, refl, sym, ap, ◌∙◌, subst, inl, inr, arith}
+use Rattle.std.specs.Prelude.{Result, is_some}
 use Rattle.std.specs.List.{All}
 use Rattle.std.proofs.lemmas.List.Elements.{All-nil}
 use Rattle.txn_data.specs.declared.actor.Actor.{Actor}
@@ -15,7 +15,7 @@ use Rattle.txn_data.specs.declared.request.Request.{Request}
 use Rattle.txn_data.specs.declared.told.Told.{Told}
 use Rattle.txn_data.specs.declared.told.Told.TheVariants as told
 use Rattle.txn_data.specs.declared.told_refusal.ToldRefusal.TheVariants as told_refusal
-use Rattle.txn_types.specs.History.{History, same_actor}
+use Rattle.txn_types.specs.History.{History}
 use Rattle.txn_types.specs.Plan.{IsLine, IsSession}
 use Rattle.txn_types.specs.Program as program
 use Rattle.txn_types.specs.Program.{turn_with}
@@ -27,12 +27,12 @@ use Rattle.session_core.specs.Core.{Answered as AnsweredBy}
 use Rattle.session_core.specs.Turn.{lists}
 use Rattle.session_core.specs.declared.session_core.SessionCore.{SessionCore}
 use Rattle.session_core.specs.declared.turn.Turn.{Turn}
-use Rattle.mover_chain.specs.NextEvent.{NextEvent, Starts, starts_next, session_starts, is_left, goes_on}
+use Rattle.mover_chain.specs.NextEvent.{NextEvent, Starts, starts_next, session_starts, is_left}
 use Rattle.mover_seat.specs.Lines.{Splits, Takes, line_next, one_if}
-use Rattle.mover_seat.specs.Made.{starts_made, asks_made, hears_made, tells_made, Makes}
+use Rattle.mover_seat.specs.Made.{starts_made, asks_made, hears_made, tells_made}
 use Rattle.mover_seat.specs.NextEvent.{session_from}
 use Rattle.mover_seat.specs.Session.{HasCome, Comes}
-use Rattle.mover_seat.specs.Stage.{StandsAt, IsDue, ahead, awaited, stage_after}
+use Rattle.mover_seat.specs.Stage.{IsDue, awaited, stage_after}
 use Rattle.mover_seat.specs.Step.{clock_of, moved_of}
 use Rattle.mover_seat.specs.declared.lines.Lines.{Lines}
 use Rattle.mover_seat.specs.declared.made.Made.{Made}
@@ -199,6 +199,26 @@ heard_comes config i given all begun m f c d l from reply r now come named same 
         listing = λ by which e listed. cc;
       },
     )
+
+-- a reply to what it asked came
+pub reply_comes : (config : Config) (i : ℕ) (given : List Command) (all : Bool) (begun : List Command) (m : Mover) (f : Flight) (c : SessionCore) (l : Lines) (from to : Actor) (r : Reply) → HasCome config i given all begun m f c l (stage.Awaits from) → awaited f ≡ Some to →
+    HasCome config i given all begun m (Answered to r) c l (stage.Hears from r)
+reply_comes config i given all begun m f c l from to r come goes =
+    let there : awaited f ≡ Some from = come.stage.1 in
+    let same : to ≡ from = cc in
+    record {
+      of = come.of;
+      is = come.is;
+      session = come.session;
+      commands = come.commands;
+      mover = come.mover;
+      stage = (come.stage.0, ap (λ (a : Actor). Answered a r) same);
+      finished = come.finished;
+      splits = come.splits;
+      lines = come.lines;
+      clock = come.clock;
+      listing = λ by which e listed. cc;
+    }
 
 -- ## a reading that was wanted
 

@@ -1,5 +1,5 @@
 -- What is left of the lines that were given.
-use Rattle.std.proofs.Common.{◌≡◌, ◌≢◌, ℕ, ◌+◌, ◌≤◌, Bool, true, false, ◌&&◌, not, List, [], ◌∷◌, ◌++◌, Option, Some, None, length, drop, nat_eq, refl, sym, ap, ◌∙◌, subst, inl, inr, append_assoc, arith}
+use Rattle.std.proofs.Common.{◌≡◌, ◌+◌, Bool, true, false, ◌&&◌, not, List, [], ◌∷◌, ◌++◌, Option, Some, None, length, drop, nat_eq, refl, sym, ap, ◌∙◌, subst, inl, inr, append_assoc, arith}
 use Rattle.std.proofs.lemmas.List.{length-append}
 use Rattle.std.proofs.lemmas.List.Elements.{All-head, All-tail, All-nil}
 use Rattle.std.proofs.Math.Seq.{drop-append_seam}
@@ -13,7 +13,7 @@ use Rattle.txn_types.specs.Plan.{IsLine}
 use Rattle.txn_types.specs.Run.{StartsLine}
 use Rattle.txn_types.specs.Session.{Opened, IsOpen}
 use Rattle.law_machines.proofs.Basics.{eq_refl, eq_cases}
-use Rattle.mover_chain.specs.NextEvent.{NextEvent, NoneLeft, Starts, starts_next, session_starts, is_left}
+use Rattle.mover_chain.specs.NextEvent.{Starts, starts_next, session_starts}
 use Rattle.mover_seat.specs.Lines.{Splits, TakesLine, Next, Ends, line_next}
 use Rattle.mover_seat.specs.declared.lines.Lines.{Lines}
 

@@ -1,11 +1,11 @@
 -- Where a mover stands after an answer of its core, and what it makes there.
-use Rattle.std.proofs.Common.{◌≡◌, ℕ, ◌+◌, Bool, true, false, Option, Some, None, refl, sym, ap, ◌∙◌, inl, inr}
+use Rattle.std.proofs.Common.{◌≡◌, ℕ, true, Option, Some, None, refl, sym, ap, ◌∙◌, inl, inr}
 use Rattle.std.specs.Prelude.{Result, Ok, Err}
 use Rattle.txn_data.specs.declared.actor.Actor.{Actor}
 use Rattle.txn_data.specs.declared.command.Command.{Command}
 use Rattle.txn_data.specs.declared.command.Command.TheVariants as command
 use Rattle.txn_data.specs.declared.config.Config.{Config}
-use Rattle.txn_data.specs.declared.event.Event.TheVariants.{Start, Ask, Hear, Tell}
+use Rattle.txn_data.specs.declared.event.Event.TheVariants.{Ask, Hear, Tell}
 use Rattle.txn_data.specs.declared.reply.Reply.{Reply}
 use Rattle.txn_data.specs.declared.request.Request.{Request}
 use Rattle.txn_data.specs.declared.told.Told.{Told}
@@ -17,12 +17,11 @@ use Rattle.txn_types.specs.Script.{clock_by, ReadsRight}
 use Rattle.session_core.specs.Core.{Answered as AnsweredBy}
 use Rattle.session_core.specs.declared.turn.Turn.{Turn}
 use Rattle.session_core.specs.declared.turn.Turn.TheVariants as turn
-use Rattle.mover_chain.specs.NextEvent.{NextEvent, NoneLeft, Starts, Served, Hears, Turns, goes_on, is_left}
+use Rattle.mover_chain.specs.NextEvent.{NextEvent, goes_on, is_left}
 use Rattle.mover_seat.specs.Made.{asks_made, hears_made, tells_made, Makes}
 use Rattle.mover_seat.specs.Stage.{StandsAt, IsDue, ahead, stage_after}
 use Rattle.mover_seat.specs.Step.{moved_of, clock_of, told_clock}
 use Rattle.mover_seat.specs.declared.moved.Moved.{Moved}
-use Rattle.mover_seat.specs.declared.moved.Moved.TheVariants as moved
 use Rattle.mover_seat.specs.declared.stage.Stage.{Stage}
 
 -- after an answer of the core that took no reading

@@ -1,5 +1,5 @@
 -- What a mover does next, by its own entries and the message on its way.
-use Rattle.std.specs.Prelude.{ℕ, Bool, List, Option, Some, None, nat_lt, if◌then◌else◌}
+use Rattle.std.specs.Prelude.{ℕ, Bool, List, Some, None, nat_lt, if◌then◌else◌}
 use Rattle.txn_data.specs.declared.actor.Actor.{Actor}
 use Rattle.txn_data.specs.declared.actor.Actor.TheVariants.{Session, Applier}
 use Rattle.txn_data.specs.declared.command.Command.{Command}

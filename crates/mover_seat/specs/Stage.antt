@@ -3,7 +3,6 @@ use Rattle.std.specs.Prelude.{◌≡◌, Bool, true, false, ◌&&◌, ◌||◌, 
 use Rattle.txn_data.specs.declared.actor.Actor.{Actor}
 use Rattle.txn_data.specs.declared.config.Config.{Config}
 use Rattle.txn_data.specs.declared.event.Event.TheVariants as event
-use Rattle.txn_data.specs.declared.request.Request.{Request}
 use Rattle.txn_data.specs.declared.told.Told.TheVariants as told
 use Rattle.txn_data.specs.declared.told_refusal.ToldRefusal.TheVariants as told_refusal
 use Rattle.txn_types.specs.Program.{Reading, Ask, turn_with}

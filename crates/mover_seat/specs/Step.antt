@@ -4,11 +4,12 @@ use Rattle.txn_data.specs.declared.actor.Actor.{Actor}
 use Rattle.txn_data.specs.declared.command.Command.{Command}
 use Rattle.txn_data.specs.declared.command.Command.TheVariants as command
 use Rattle.txn_data.specs.declared.config.Config.{Config}
-use Rattle.txn_data.specs.declared.event.Event.{Event}
 use Rattle.txn_data.specs.declared.event.Event.TheVariants.{Start, Hear}
 use Rattle.txn_data.specs.declared.told.Told.{Told}
 use Rattle.txn_data.specs.declared.told.Told.TheVariants as told
 use Rattle.txn_data.specs.declared.reply.Reply.{Reply}
+use Rattle.txn_data.specs.declared.reply.Reply.TheVariants as reply
+use Rattle.txn_data.specs.declared.refusal.Refusal.TheVariants as refusal
 use Rattle.txn_types.specs.History.{History}
 use Rattle.txn_types.specs.Run.{Flight, Answered, mover_at}
 use Rattle.txn_types.specs.Script.{clock_by, ReadsRight}
@@ -43,4 +44,14 @@ pub record IsStep (config : Config) (a : Actor) (next : NextEvent) (reading : �
   pub heard : (from : Actor) (r : Reply) → step.entry.event ≡ Hear from r → f ≡ Answered from r
   pub starts : (number : ℕ) (line : Command) → step.entry.event ≡ Start number line → next ≡ Starts line
   pub reads : ReadsRight reading step.entry.reading
+  pub moved : step.moved ≡ moved_of (clock_by (mover_at config a g).line step.entry.event)
+
+-- a step of mover `a` that hears out of memory in place of the reply of this actor. It has this event next, after these
+-- entries of its own; its table allows the entry
+pub record HearsMemory (config : Config) (a : Actor) (next : NextEvent) (g : History) (from : Actor) (step : Step) : Type 0 where
+  pub left : is_left next ≡ true
+  pub actor : step.entry.actor ≡ a
+  pub allowed : OwnAllowed config a g step.entry.reading step.entry.event
+  pub hears : step.entry.event ≡ Hear from (reply.Refused refusal.Memory)
+  pub reading : step.entry.reading ≡ None
   pub moved : step.moved ≡ moved_of (clock_by (mover_at config a g).line step.entry.event)

@@ -1,14 +1,14 @@
 //! The applier of a tablet.
-ghost use Rattle.std.specs.Prelude.{◌≡◌, ◌≤◌, ◌+◌, ◌<◌, ℕ, Bool, true, false, ◌&&◌, List, [], ◌∷◌, Some, is_some, IfSome, IsNone};
+ghost use Rattle.std.specs.Prelude.{◌≡◌, ◌≤◌, ◌+◌, ◌<◌, ℕ, Bool, true, false, ◌&&◌, [], ◌∷◌, Some, is_some, IfSome, IsNone};
 ghost use Rattle.mover_seat.specs.Pass.{does_hold, begins};
 
-use crate::pass_work::next_of;
+use crate::pass_work::{hear, next_of};
 use crate::stage::Stage;
 use crate::step::Step;
 use intent_applier::Pass;
 use std::alloc::Global;
 use std::mem;
-use txn_types::{Actor, Entry, Reply};
+use txn_types::{Actor, Entry, Refusal, Reply};
 
 /// The applier of a tablet. Contracts see what it stands for, `StandsFor`: the tablet, its own entries, and the message on
 /// its way.
@@ -37,7 +37,7 @@ impl ApplierSeat {
     ghost use Rattle.mover_seat.specs.NextEvent.{applier_event};
     ghost use Rattle.mover_seat.specs.Applier.{StandsFor, awaits_of};
     ghost use Rattle.mover_seat.specs.Stage.{awaited};
-    ghost use Rattle.mover_seat.specs.Step.{IsStep};
+    ghost use Rattle.mover_seat.specs.Step.{HearsMemory, IsStep};
 
     /// The applier of this tablet, which makes so many passes beside the sessions, and then a last one. It takes no memory.
     pub fn open(alloc: Global, tablet: u32, passes: u32) -> ApplierSeat
@@ -82,10 +82,10 @@ impl ApplierSeat {
         self.stage.awaits()
     }
 
-    /// Takes the reply to what it asked, or out of memory in its place. It is heard by the next entry. It takes no memory.
+    /// Takes the reply to what it asked. It is heard by the next entry. It takes no memory.
     pub fn heard(&mut self, reply: Reply)
         requires { is_some (awaits_of self.old) ≡ true }
-        ensures stands { (config : Config) (k : ℕ) (g : History) (f : Flight) (to : Actor) → StandsFor config k g f self.old → awaits_of self.old ≡ Some to → StandsFor config k g (Answered to reply) self.new }
+        ensures stands { (config : Config) (k : ℕ) (g : History) (f : Flight) (to : Actor) → StandsFor config k g f self.old → awaited f ≡ Some to → StandsFor config k g (Answered to reply) self.new }
         ensures awaits { is_some (awaits_of self.new) ≡ false }
     {
         let Stage::Awaits { to } = &self.stage else {
@@ -93,6 +93,27 @@ impl ApplierSeat {
         };
         let from = *to;
         self.stage = Stage::Hears { from, reply };
+    }
+
+    /// Its next entry, where nobody served what it asked: it hears out of memory in place of the reply. It takes no memory.
+    pub fn lost(&mut self) -> Step
+        requires { is_some (awaits_of self.old) ≡ true }
+        ensures { (config : Config) (k : ℕ) (g : History) (f : Flight) (to : Actor) (done : Bool) → StandsFor config k g f self.old → awaited f ≡ Some to → HearsMemory config (Applier k) (applier_event done config k g f) g to result × StandsFor config k (result.entry ∷ g) Quiet self.new }
+    {
+        let Stage::Awaits { to } = &self.stage else {
+            unreachable!();
+        };
+        let made = hear(&mut self.pass, *to, Reply::Refused(Refusal::Memory));
+        self.stage = made.stage;
+        let entry = Entry {
+            actor: Actor::Applier(self.tablet),
+            reading: made.reading,
+            event: made.event,
+        };
+        Step {
+            entry,
+            moved: made.moved,
+        }
     }
 
     /// Its next entry, where each session was told its last command (`done`) or not; nothing where it has no event left. It

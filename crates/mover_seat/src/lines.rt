@@ -1,5 +1,5 @@
 //! The lines of a session that are left.
-ghost use Rattle.std.specs.Prelude.{◌≡◌, ◌≤◌, ◌<◌, ◌+◌, true, false, ◌&&◌, not, [], ◌∷◌, ◌++◌, length, nat_eq, IfSome, IsNone, OnOk, OnErr};
+ghost use Rattle.std.specs.Prelude.{◌≡◌, ◌≤◌, ◌<◌, ◌+◌, true, false, ◌&&◌, [], ◌∷◌, ◌++◌, length, IfSome, IsNone, OnOk, OnErr};
 ghost use Rattle.std.specs.List.{list_all};
 ghost use Rattle.session_core.specs.Lines.{has_few_places};
 ghost use Rattle.mover_chain.specs.NextEvent.{Starts, NoneLeft, is_left};

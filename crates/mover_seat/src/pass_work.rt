@@ -16,7 +16,7 @@ use crate::moved::Moved;
 use crate::stage::Stage;
 use intent_applier::{Pass, PassTurn};
 use std::alloc::Global;
-use txn_types::{Command, Reply, Told, ToldRefusal};
+use txn_types::{Actor, Command, Reply, Told, ToldRefusal};
 
 /// The next entry of the applier of this tablet, which stands there, and where it then stands; nothing where it has no event
 /// left. `may_begin` says whether it may begin a pass.
@@ -48,12 +48,19 @@ pub(crate) fn next_of(
         Stage::Between => None,
         Stage::Asks { to, request } => Some(Made::asks(None, to, request)),
         Stage::Tells(told) => Some(Made::tells(None, *begun, Moved::Event, told)),
-        Stage::Hears { from, reply } => {
-            let stage = heard(pass, &reply);
-            Some(Made::hears(from, reply, stage))
-        }
+        Stage::Hears { from, reply } => Some(hear(pass, from, reply)),
         Stage::Reads | Stage::Awaits { .. } => unreachable!(),
     }
+}
+
+/// The reply that came is heard. If memory runs out, the pass is over, and told so next.
+pub(crate) fn hear(pass: &mut Option<Pass>, from: Actor, reply: Reply) -> Made
+    requires { does_hold pass.old (Stage.Hears from reply) ≡ true }
+    ensures come { (config : Config) (k begun : ℕ) (done : Bool) (m : Mover) (f : Flight) → HasCome config k begun m f pass.old (Stage.Hears from reply) → Comes config k done begun m f result begun pass.new }
+    ensures holds { does_hold pass.new result.stage ≡ true }
+{
+    let stage = heard(pass, &reply);
+    Made::hears(from, reply, stage)
 }
 
 // A pass over this tablet starts. Tells where its applier then stands.

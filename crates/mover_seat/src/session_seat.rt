@@ -4,14 +4,14 @@ ghost use Rattle.mover_seat.specs.Lines.{IsCounted};
 ghost use Rattle.mover_seat.specs.Stage.{does_fit};
 
 use crate::lines::Lines;
-use crate::session_work::next_of;
+use crate::session_work::{hear, next_of};
 use crate::stage::Stage;
 use crate::step::Step;
 use docdb_base::Memory;
 use session_core::SessionCore;
 use std::alloc::Global;
 use std::mem;
-use txn_types::{Actor, Command, Config, Entry, Reply, node_of};
+use txn_types::{Actor, Command, Config, Entry, Refusal, Reply, node_of};
 
 /// A session with its lines. Contracts see what it stands for, `StandsFor`: the session, the lines that it was given, whether
 /// more may come, its own entries, and the message on its way.
@@ -40,7 +40,7 @@ impl SessionSeat {
     ghost use Rattle.mover_seat.specs.NextEvent.{session_event};
     ghost use Rattle.mover_seat.specs.Session.{StandsFor, given_of, is_finished, is_reading, awaits_of};
     ghost use Rattle.mover_seat.specs.Stage.{awaited};
-    ghost use Rattle.mover_seat.specs.Step.{IsStep};
+    ghost use Rattle.mover_seat.specs.Step.{HearsMemory, IsStep};
 
     /// A session that starts, to which lines may be given. It takes no memory.
     pub fn open(alloc: Global, config: &Config, session: u32) -> SessionSeat
@@ -118,11 +118,12 @@ impl SessionSeat {
         self.core.reads()
     }
 
-    /// Takes the reply to what it asked, or out of memory in its place. It is heard by the next entry. It takes no memory.
+    /// Takes the reply to what it asked. It is heard by the next entry. It takes no memory.
     pub fn heard(&mut self, reply: Reply)
         requires awaits { is_some (awaits_of self.old) ≡ true }
         requires listed { is_listed reply ≡ true → is_reading self.old ≡ true }
-        ensures stands { (config : Config) (i : ℕ) (given : List Command) (all : Bool) (g : History) (f : Flight) (to : Actor) → StandsFor config i given all g f self.old → awaits_of self.old ≡ Some to → StandsFor config i given all g (Answered to reply) self.new }
+        ensures stands { (config : Config) (i : ℕ) (given : List Command) (all : Bool) (g : History) (f : Flight) (to : Actor) → StandsFor config i given all g f self.old → awaited f ≡ Some to → StandsFor config i given all g (Answered to reply) self.new }
+        ensures left { (config : Config) (i : ℕ) (given : List Command) (all : Bool) (g : History) (f : Flight) (to : Actor) → StandsFor config i given all g f self.old → awaited f ≡ Some to → (is_left (session_event given all config i g f) ≡ true) × (is_left (session_event given all config i g (Answered to reply)) ≡ true) }
         ensures awaits { is_some (awaits_of self.new) ≡ false }
         ensures given { given_of self.new ≡ given_of self.old }
         ensures finished { is_finished self.new ≡ is_finished self.old }
@@ -132,6 +133,30 @@ impl SessionSeat {
         };
         let from = *to;
         self.stage = Stage::Hears { from, reply };
+    }
+
+    /// Its next entry, where nobody served what it asked: it hears out of memory in place of the reply. It takes no memory.
+    pub fn lost(&mut self) -> Step
+        requires { is_some (awaits_of self.old) ≡ true }
+        ensures step { (config : Config) (i : ℕ) (given : List Command) (all : Bool) (g : History) (f : Flight) (to : Actor) → StandsFor config i given all g f self.old → awaited f ≡ Some to → HearsMemory config (Session i) (session_event given all config i g f) g to result × StandsFor config i given all (result.entry ∷ g) Quiet self.new }
+        ensures left { (config : Config) (i : ℕ) (given : List Command) (all : Bool) (g : History) (f : Flight) (to : Actor) → StandsFor config i given all g f self.old → awaited f ≡ Some to → is_left (session_event given all config i (result.entry ∷ g) Quiet) ≡ true }
+        ensures given { given_of self.new ≡ given_of self.old }
+        ensures finished { is_finished self.new ≡ is_finished self.old }
+    {
+        let Stage::Awaits { to } = &self.stage else {
+            unreachable!();
+        };
+        let made = hear(&mut self.core, *to, Reply::Refused(Refusal::Memory));
+        self.stage = made.stage;
+        let entry = Entry {
+            actor: Actor::Session(self.session),
+            reading: made.reading,
+            event: made.event,
+        };
+        Step {
+            entry,
+            moved: made.moved,
+        }
     }
 
     /// Its next entry, with this reading of its node's clock, in microseconds, where the entry wants one; nothing where it

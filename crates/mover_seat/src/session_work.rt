@@ -1,5 +1,5 @@
 //! What a session does next.
-ghost use Rattle.std.specs.Prelude.{◌≡◌, ℕ, ◌≤◌, ◌++◌, Bool, true, false, List, IfSome, IsNone};
+ghost use Rattle.std.specs.Prelude.{◌≡◌, ℕ, Bool, true, false, List, IfSome, IsNone};
 ghost use Rattle.txn_data.specs.declared.command.Command.{Command};
 ghost use Rattle.txn_data.specs.declared.config.Config.{Config};
 ghost use Rattle.txn_types.specs.Run.{Mover, Flight};
@@ -88,8 +88,8 @@ fn tell(core: &SessionCore, lines: &Lines, reading: Option<u64>, told: Told) -> 
     Made::tells(reading, core.commands() as u32, lines.clock, told)
 }
 
-// The reply that came is heard.
-fn hear(core: &mut SessionCore, from: Actor, reply: Reply) -> Made
+/// The reply that came is heard.
+pub(crate) fn hear(core: &mut SessionCore, from: Actor, reply: Reply) -> Made
     requires fits { does_fit core.old (Stage.Hears from reply) ≡ true }
     ensures come { (config : Config) (i : ℕ) (given : List Command) (all : Bool) (begun : List Command) (m : Mover) (f : Flight) (lines : Lines) (reading : ℕ) → HasCome config i given all begun m f core.old lines (Stage.Hears from reply) → Comes config i given all begun m f reading result core.new lines }
     ensures fits { does_fit core.new result.stage ≡ true }

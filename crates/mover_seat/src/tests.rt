@@ -1,12 +1,13 @@
 //! A session and an applier through a few lines, by entries worked by hand.
-ghost use Rattle.std.specs.Prelude.{◌≡◌, true, IfOk};
 ghost use Rattle.txn_types.specs.Plan.{IsCluster};
 
 use super::*;
 use docdb_base::Seq;
 use std::alloc::Global;
 use std::test::Fail;
-use txn_types::{Actor, Command, Config, Event, Reply, Request, Schedule, Told};
+use txn_types::{
+    Actor, Command, Config, Event, Refusal, Reply, Request, Schedule, Told, ToldRefusal,
+};
 
 fn cluster(alloc: Global) -> Config
     ensures { IsCluster result }
@@ -156,5 +157,59 @@ fn an_applier_makes_its_passes_and_a_last_one(rt: HostRuntime) -> Result<(), Fai
         assert_eq!(rt; seat.has_event(true), !done);
         assert!(rt; !seat.has_event(false));
     }
+    Ok(())
+}
+
+fn is_lost(event: &Event) -> bool {
+    matches!(
+        event,
+        Event::Hear {
+            reply: Reply::Refused(Refusal::Memory),
+            ..
+        }
+    )
+}
+
+fn is_told_so(event: &Event) -> bool {
+    matches!(
+        event,
+        Event::Tell {
+            told: Told::Refused(ToldRefusal::Memory),
+            ..
+        }
+    )
+}
+
+#[test]
+fn a_session_hears_out_of_memory(rt: HostRuntime) -> Result<(), Fail> {
+    let config = cluster(rt.alloc());
+    let mut seat = SessionSeat::open(rt.alloc(), &config, 3);
+    seat.give(Command::Begin { priority: 5 })?;
+    assert!(rt; matches!(step(&mut seat)?.entry.event, Event::Start { .. }));
+    assert!(rt; matches!(step(&mut seat)?.entry.event, Event::Ask { .. }));
+    if seat.awaits().is_none() {
+        return Err(Fail::from("it waits for no reply"));
+    }
+    assert!(rt; is_lost(&seat.lost().entry.event));
+    assert!(rt; is_told_so(&step(&mut seat)?.entry.event));
+    Ok(())
+}
+
+fn lost(seat: &mut ApplierSeat) -> Result<Event, Fail> {
+    if seat.awaits().is_none() {
+        return Err(Fail::from("it waits for no reply"));
+    }
+    Ok(seat.lost().entry.event)
+}
+
+#[test]
+fn an_applier_hears_out_of_memory(rt: HostRuntime) -> Result<(), Fail> {
+    let mut seat = ApplierSeat::open(rt.alloc(), 4, 1);
+    let start = pass_step(&mut seat, false)?;
+    assert!(rt; matches!(start, Event::Start { .. }));
+    let ask = pass_step(&mut seat, false)?;
+    assert!(rt; matches!(ask, Event::Ask { .. }));
+    let hear = lost(&mut seat)?;
+    assert!(rt; is_lost(&hear));
     Ok(())
 }

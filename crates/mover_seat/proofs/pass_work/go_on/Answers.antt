@@ -1,5 +1,4 @@
 use Rattle.std.proofs.Common.{◌≡◌, refl, sym, ap, subst}
-use Rattle.txn_data.specs.declared.told.Told.{Told}
 use Rattle.txn_types.specs.Program.{turn}
 use Rattle.intent_applier.specs.Rest.{rest, turn_of}
 use Rattle.intent_applier.specs.declared.pass_turn.PassTurn.{PassTurn}

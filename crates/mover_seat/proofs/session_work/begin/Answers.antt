@@ -1,7 +1,6 @@
-use Rattle.std.proofs.Common.{◌≡◌, sym, ap, subst, ◌∙◌, length}
+use Rattle.std.proofs.Common.{sym, ap, subst, ◌∙◌, length}
 use Rattle.mover_seat.specs.Made.{starts_made}
 use Rattle.mover_seat.specs.Session.{Comes}
-use Rattle.mover_seat.specs.Stage.{stage_after}
 use Rattle.mover_seat.specs.declared.made.Made.{Made}
 use Rattle.session_core.specs.Core.{commands_of}
 use Rattle.mover_seat.proofs.Sessions.{begun_comes, few_begun}

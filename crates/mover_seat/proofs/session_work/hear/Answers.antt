@@ -1,7 +1,6 @@
-use Rattle.std.proofs.Common.{◌≡◌, sym, ap, subst, ◌∙◌}
+use Rattle.std.proofs.Common.{sym, ap, subst, ◌∙◌}
 use Rattle.mover_seat.specs.Made.{hears_made}
 use Rattle.mover_seat.specs.Session.{Comes}
-use Rattle.mover_seat.specs.Stage.{stage_after}
 use Rattle.mover_seat.specs.declared.made.Made.{Made}
 use Rattle.mover_seat.proofs.Sessions.{heard_comes}
 use Rattle.mover_seat.proofs.session_work.hear.Goals as goal

@@ -1,4 +1,4 @@
-use Rattle.std.proofs.Common.{◌≡◌, refl, sym, subst}
+use Rattle.std.proofs.Common.{refl, sym, subst}
 use Rattle.mover_seat.specs.Session.{HasCome, Comes}
 use Rattle.mover_seat.specs.declared.made.Made.{Made}
 use Rattle.mover_seat.specs.declared.stage.Stage.{Stage}
