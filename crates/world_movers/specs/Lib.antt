@@ -1,0 +1,5 @@
+pub mod Asked
+pub mod Slots
+pub mod Sessions
+pub mod Appliers
+pub mod Movers
