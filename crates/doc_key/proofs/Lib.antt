@@ -4,3 +4,4 @@ pub mod Fronts
 pub mod Groups
 pub mod Keys
 pub mod Order
+pub mod Shown

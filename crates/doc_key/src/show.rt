@@ -1,5 +1,6 @@
 //! The text of a key.
 ghost use Rattle.std.specs.Prelude.{◌≡◌, ◌++◌, length, take, OnOk, OnErr};
+ghost use Rattle.std.specs.Str.{IsAscii};
 ghost use Rattle.doc_key.specs.Showing.{shown_columns, shown};
 
 use crate::doc_key::DocKey;
@@ -8,6 +9,7 @@ use docdb_base::Memory;
 
 fn show_columns(columns: &[Primitive], out: &mut Vec<u8>) -> Result<(), Memory>
     ensures ok { OnOk result (out.new.items ≡ out.old.items ++ shown_columns columns.now) }
+    ensures ascii { OnOk result (IsAscii (shown_columns columns.now)) }
     ensures memory { OnErr result (take (length out.old.items) out.new.items ≡ out.old.items) }
 {
     if let Some((first, others)) = columns.split_first() {
@@ -23,6 +25,7 @@ fn show_columns(columns: &[Primitive], out: &mut Vec<u8>) -> Result<(), Memory>
 impl DocKey {
     fn show(&self, out: &mut Vec<u8>) -> Result<(), Memory>
         ensures ok { OnOk result (out.new.items ≡ out.old.items ++ shown self.now) }
+        ensures ascii { OnOk result (IsAscii (shown self.now)) }
         ensures memory { OnErr result (take (length out.old.items) out.new.items ≡ out.old.items) }
     {
         out.push(b'[')?;
@@ -36,6 +39,7 @@ impl DocKey {
     /// Appends the text of the key, as a script and a report show it. If memory runs out, `out` is as before.
     pub fn text(&self, out: &mut Vec<u8>) -> Result<(), Memory>
         ensures ok { OnOk result (out.new.items ≡ out.old.items ++ shown self.now) }
+        ensures ascii { OnOk result (IsAscii (shown self.now)) }
         ensures memory { OnErr result (out.new.items ≡ out.old.items) }
     {
         let before = out.len();

@@ -4,3 +4,4 @@ pub mod Texts
 pub mod Values
 pub mod Order
 pub mod ValueOrder
+pub mod Shown

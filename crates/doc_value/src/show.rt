@@ -1,6 +1,7 @@
 //! The text of a value.
 ghost use Rattle.std.specs.Prelude.{◌≡◌, ◌<◌, ◌++◌, ◌∷◌, [], length, take, OnOk, OnErr};
 ghost use Rattle.std.specs.List.{flat_map};
+ghost use Rattle.std.specs.Str.{IsAscii};
 ghost use Rattle.doc_value.specs.Showing.{shown, shown_byte, hex_digit};
 
 use crate::primitive::Primitive;
@@ -21,6 +22,7 @@ fn hex_digit(number: u8) -> u8
 
 fn show_byte(byte: u8, out: &mut Vec<u8>) -> Result<(), Memory>
     ensures ok { OnOk result (out.new.items ≡ out.old.items ++ shown_byte byte) }
+    ensures ascii { OnOk result (IsAscii (shown_byte byte)) }
     ensures memory { OnErr result (out.new.items ≡ out.old.items) }
 {
     match byte {
@@ -32,6 +34,7 @@ fn show_byte(byte: u8, out: &mut Vec<u8>) -> Result<(), Memory>
 
 fn show_text(text: &[u8], out: &mut Vec<u8>) -> Result<(), Memory>
     ensures ok { OnOk result (out.new.items ≡ out.old.items ++ (34 ∷ (flat_map shown_byte text.now ++ 34 ∷ []))) }
+    ensures ascii { OnOk result (IsAscii (34 ∷ (flat_map shown_byte text.now ++ 34 ∷ []))) }
     ensures memory { OnErr result (take (length out.old.items) out.new.items ≡ out.old.items) }
 {
     out.push(b'"')?;
@@ -45,6 +48,7 @@ fn show_text(text: &[u8], out: &mut Vec<u8>) -> Result<(), Memory>
 impl Primitive {
     fn show(&self, out: &mut Vec<u8>) -> Result<(), Memory>
         ensures ok { OnOk result (out.new.items ≡ out.old.items ++ shown self.now) }
+        ensures ascii { OnOk result (IsAscii (shown self.now)) }
         ensures memory { OnErr result (take (length out.old.items) out.new.items ≡ out.old.items) }
     {
         match self {
@@ -66,6 +70,7 @@ impl Primitive {
     /// Appends the text of the value, as a script and a report show it. If memory runs out, `out` is as before.
     pub fn text(&self, out: &mut Vec<u8>) -> Result<(), Memory>
         ensures ok { OnOk result (out.new.items ≡ out.old.items ++ shown self.now) }
+        ensures ascii { OnOk result (IsAscii (shown self.now)) }
         ensures memory { OnErr result (out.new.items ≡ out.old.items) }
     {
         let before = out.len();

@@ -11,8 +11,8 @@ use std::alloc::Global;
 use txn_types::{Row, Told, TxnId};
 
 /// The text of what is told.
-pub(crate) fn answer(alloc: Global, told: &Told) -> Result<Vec<u8>, Memory>
-    ensures { IfOk result (λ text. text.items ≡ answer_text told.now) }
+pub(crate) fn answer(alloc: Global, told: &Told) -> Result<String, Memory>
+    ensures { IfOk result (λ text. string_bytes text ≡ answer_text told.now) }
 {
     match told {
         Told::Began { txn, at } => began(alloc, *txn, *at),
@@ -26,45 +26,41 @@ pub(crate) fn answer(alloc: Global, told: &Told) -> Result<Vec<u8>, Memory>
             cleaned,
             left,
         } => passed(alloc, *applied, *cleaned, *left),
-        Told::Set => b"set".to_vec(alloc),
+        Told::Set => String::from_str(alloc, "set"),
         Told::Refused(refusal) => refused(alloc, refusal),
     }
 }
 
-fn began(alloc: Global, txn: TxnId, at: HybridTime) -> Result<Vec<u8>, Memory>
-    ensures { IfOk result (λ text. text.items ≡ answer_text (Told.Began txn at)) }
+fn began(alloc: Global, txn: TxnId, at: HybridTime) -> Result<String, Memory>
+    ensures { IfOk result (λ text. string_bytes text ≡ answer_text (Told.Began txn at)) }
 {
     let (id, micros, logical) = (id_of(txn), at.micros(), at.logical());
-    let text = format!(in alloc; "began {id} at {micros}.{logical}")?;
-    Ok(text.into_bytes())
+    format!(in alloc; "began {id} at {micros}.{logical}")
 }
 
-fn written(alloc: Global, at: HybridTime) -> Result<Vec<u8>, Memory>
-    ensures { IfOk result (λ text. text.items ≡ answer_text (Told.Written at)) }
+fn written(alloc: Global, at: HybridTime) -> Result<String, Memory>
+    ensures { IfOk result (λ text. string_bytes text ≡ answer_text (Told.Written at)) }
 {
     let (micros, logical) = (at.micros(), at.logical());
-    let text = format!(in alloc; "written at {micros}.{logical}")?;
-    Ok(text.into_bytes())
+    format!(in alloc; "written at {micros}.{logical}")
 }
 
-fn committed(alloc: Global, txn: TxnId, at: HybridTime) -> Result<Vec<u8>, Memory>
-    ensures { IfOk result (λ text. text.items ≡ answer_text (Told.Committed txn at)) }
+fn committed(alloc: Global, txn: TxnId, at: HybridTime) -> Result<String, Memory>
+    ensures { IfOk result (λ text. string_bytes text ≡ answer_text (Told.Committed txn at)) }
 {
     let (id, micros, logical) = (id_of(txn), at.micros(), at.logical());
-    let text = format!(in alloc; "committed {id} at {micros}.{logical}")?;
-    Ok(text.into_bytes())
+    format!(in alloc; "committed {id} at {micros}.{logical}")
 }
 
-fn ended(alloc: Global, txn: TxnId) -> Result<Vec<u8>, Memory>
-    ensures { IfOk result (λ text. text.items ≡ answer_text (Told.Ended txn)) }
+fn ended(alloc: Global, txn: TxnId) -> Result<String, Memory>
+    ensures { IfOk result (λ text. string_bytes text ≡ answer_text (Told.Ended txn)) }
 {
     let id = id_of(txn);
-    let text = format!(in alloc; "ended {id}")?;
-    Ok(text.into_bytes())
+    format!(in alloc; "ended {id}")
 }
 
-fn values(alloc: Global, at: HybridTime, restarts: u32, rows: &[Row]) -> Result<Vec<u8>, Memory>
-    ensures { IfOk result (λ text. text.items ≡ answer_text (Told.Values at restarts rows.now)) }
+fn values(alloc: Global, at: HybridTime, restarts: u32, rows: &[Row]) -> Result<String, Memory>
+    ensures { IfOk result (λ text. string_bytes text ≡ answer_text (Told.Values at restarts rows.now)) }
 {
     let time = time_text(alloc, at)?;
     let head = format!(in alloc; "values at {time} restarts {restarts}:")?;
@@ -72,22 +68,21 @@ fn values(alloc: Global, at: HybridTime, restarts: u32, rows: &[Row]) -> Result<
     for row in rows {
         put_row(alloc, &mut text, row)?;
     }
-    Ok(text)
+    Ok(String::from_utf8(text).unwrap())
 }
 
-fn restarted(alloc: Global, kept: bool) -> Result<Vec<u8>, Memory>
-    ensures { IfOk result (λ text. text.items ≡ kept_text kept) }
+fn restarted(alloc: Global, kept: bool) -> Result<String, Memory>
+    ensures { IfOk result (λ text. string_bytes text ≡ kept_text kept) }
 {
     if kept {
-        b"restarted kept=yes".to_vec(alloc)
+        String::from_str(alloc, "restarted kept=yes")
     } else {
-        b"restarted kept=no".to_vec(alloc)
+        String::from_str(alloc, "restarted kept=no")
     }
 }
 
-fn passed(alloc: Global, applied: u64, cleaned: u64, left: u64) -> Result<Vec<u8>, Memory>
-    ensures { IfOk result (λ text. text.items ≡ answer_text (Told.Passed applied cleaned left)) }
+fn passed(alloc: Global, applied: u64, cleaned: u64, left: u64) -> Result<String, Memory>
+    ensures { IfOk result (λ text. string_bytes text ≡ answer_text (Told.Passed applied cleaned left)) }
 {
-    let text = format!(in alloc; "passed applied={applied} cleaned={cleaned} left={left}")?;
-    Ok(text.into_bytes())
+    format!(in alloc; "passed applied={applied} cleaned={cleaned} left={left}")
 }

@@ -11,8 +11,8 @@ use sub_doc_key::path_text;
 use txn_types::{Actor, ToldRefusal, TxnId};
 
 /// The text of a refusal.
-pub(crate) fn refused(alloc: Global, refusal: &ToldRefusal) -> Result<Vec<u8>, Memory>
-    ensures { IfOk result (λ text. text.items ≡ refusal_text refusal.now) }
+pub(crate) fn refused(alloc: Global, refusal: &ToldRefusal) -> Result<String, Memory>
+    ensures { IfOk result (λ text. string_bytes text ≡ refusal_text refusal.now) }
 {
     match refusal {
         ToldRefusal::Conflict { other } => conflict(alloc, *other),
@@ -24,83 +24,75 @@ pub(crate) fn refused(alloc: Global, refusal: &ToldRefusal) -> Result<Vec<u8>, M
         ToldRefusal::ClockRange { actor, reading } => clock_range(alloc, *actor, *reading),
         ToldRefusal::LogFault { actor } => log_fault(alloc, *actor),
         ToldRefusal::Down { actor, since } => down(alloc, *actor, *since),
-        ToldRefusal::NoTxn => b"refused no-transaction".to_vec(alloc),
-        ToldRefusal::TxnOpen => b"refused transaction-open".to_vec(alloc),
-        ToldRefusal::InDoubt => b"refused in-doubt".to_vec(alloc),
-        ToldRefusal::Memory => b"refused memory".to_vec(alloc),
+        ToldRefusal::NoTxn => String::from_str(alloc, "refused no-transaction"),
+        ToldRefusal::TxnOpen => String::from_str(alloc, "refused transaction-open"),
+        ToldRefusal::InDoubt => String::from_str(alloc, "refused in-doubt"),
+        ToldRefusal::Memory => String::from_str(alloc, "refused memory"),
     }
 }
 
-fn conflict(alloc: Global, other: TxnId) -> Result<Vec<u8>, Memory>
-    ensures { IfOk result (λ text. text.items ≡ refusal_text (ToldRefusal.Conflict other)) }
+fn conflict(alloc: Global, other: TxnId) -> Result<String, Memory>
+    ensures { IfOk result (λ text. string_bytes text ≡ refusal_text (ToldRefusal.Conflict other)) }
 {
     let id = id_of(other);
-    let text = format!(in alloc; "refused conflict {id}")?;
-    Ok(text.into_bytes())
+    format!(in alloc; "refused conflict {id}")
 }
 
-fn overlap(alloc: Global, at: HybridTime) -> Result<Vec<u8>, Memory>
-    ensures { IfOk result (λ text. text.items ≡ refusal_text (ToldRefusal.Overlap at)) }
+fn overlap(alloc: Global, at: HybridTime) -> Result<String, Memory>
+    ensures { IfOk result (λ text. string_bytes text ≡ refusal_text (ToldRefusal.Overlap at)) }
 {
     let (micros, logical) = (at.micros(), at.logical());
-    let text = format!(in alloc; "refused overlap {micros}.{logical}")?;
-    Ok(text.into_bytes())
+    format!(in alloc; "refused overlap {micros}.{logical}")
 }
 
-fn aborted(alloc: Global, by: TxnId) -> Result<Vec<u8>, Memory>
-    ensures { IfOk result (λ text. text.items ≡ refusal_text (ToldRefusal.Aborted by)) }
+fn aborted(alloc: Global, by: TxnId) -> Result<String, Memory>
+    ensures { IfOk result (λ text. string_bytes text ≡ refusal_text (ToldRefusal.Aborted by)) }
 {
     let id = id_of(by);
-    let text = format!(in alloc; "refused aborted {id}")?;
-    Ok(text.into_bytes())
+    format!(in alloc; "refused aborted {id}")
 }
 
-fn restart(alloc: Global, at: HybridTime, path: &Path) -> Result<Vec<u8>, Memory>
-    ensures { IfOk result (λ text. text.items ≡ refusal_text (ToldRefusal.Restart at path.now)) }
+fn restart(alloc: Global, at: HybridTime, path: &Path) -> Result<String, Memory>
+    ensures { IfOk result (λ text. string_bytes text ≡ refusal_text (ToldRefusal.Restart at path.now)) }
 {
     let time = time_text(alloc, at)?;
     let head = format!(in alloc; "refused restart {time} ")?;
     let mut text = head.into_bytes();
     path_text(path, &mut text)?;
-    Ok(text)
+    Ok(String::from_utf8(text).unwrap())
 }
 
-fn lease_held(alloc: Global, actor: Actor, until: u64) -> Result<Vec<u8>, Memory>
-    ensures { IfOk result (λ text. text.items ≡ refusal_text (ToldRefusal.LeaseHeld actor until)) }
+fn lease_held(alloc: Global, actor: Actor, until: u64) -> Result<String, Memory>
+    ensures { IfOk result (λ text. string_bytes text ≡ refusal_text (ToldRefusal.LeaseHeld actor until)) }
 {
     let actor = actor_text(alloc, actor)?;
-    let text = format!(in alloc; "refused lease {actor} {until}")?;
-    Ok(text.into_bytes())
+    format!(in alloc; "refused lease {actor} {until}")
 }
 
-fn clock_full(alloc: Global, actor: Actor, at: HybridTime) -> Result<Vec<u8>, Memory>
-    ensures { IfOk result (λ text. text.items ≡ refusal_text (ToldRefusal.ClockFull actor at)) }
+fn clock_full(alloc: Global, actor: Actor, at: HybridTime) -> Result<String, Memory>
+    ensures { IfOk result (λ text. string_bytes text ≡ refusal_text (ToldRefusal.ClockFull actor at)) }
 {
     let (actor, micros, logical) = (actor_text(alloc, actor)?, at.micros(), at.logical());
-    let text = format!(in alloc; "refused clock-full {actor} {micros}.{logical}")?;
-    Ok(text.into_bytes())
+    format!(in alloc; "refused clock-full {actor} {micros}.{logical}")
 }
 
-fn clock_range(alloc: Global, actor: Actor, reading: u64) -> Result<Vec<u8>, Memory>
-    ensures { IfOk result (λ text. text.items ≡ refusal_text (ToldRefusal.ClockRange actor reading)) }
+fn clock_range(alloc: Global, actor: Actor, reading: u64) -> Result<String, Memory>
+    ensures { IfOk result (λ text. string_bytes text ≡ refusal_text (ToldRefusal.ClockRange actor reading)) }
 {
     let actor = actor_text(alloc, actor)?;
-    let text = format!(in alloc; "refused clock-range {actor} {reading}")?;
-    Ok(text.into_bytes())
+    format!(in alloc; "refused clock-range {actor} {reading}")
 }
 
-fn log_fault(alloc: Global, actor: Actor) -> Result<Vec<u8>, Memory>
-    ensures { IfOk result (λ text. text.items ≡ refusal_text (ToldRefusal.LogFault actor)) }
+fn log_fault(alloc: Global, actor: Actor) -> Result<String, Memory>
+    ensures { IfOk result (λ text. string_bytes text ≡ refusal_text (ToldRefusal.LogFault actor)) }
 {
     let actor = actor_text(alloc, actor)?;
-    let text = format!(in alloc; "refused log {actor}")?;
-    Ok(text.into_bytes())
+    format!(in alloc; "refused log {actor}")
 }
 
-fn down(alloc: Global, actor: Actor, since: u64) -> Result<Vec<u8>, Memory>
-    ensures { IfOk result (λ text. text.items ≡ refusal_text (ToldRefusal.Down actor since)) }
+fn down(alloc: Global, actor: Actor, since: u64) -> Result<String, Memory>
+    ensures { IfOk result (λ text. string_bytes text ≡ refusal_text (ToldRefusal.Down actor since)) }
 {
     let actor = actor_text(alloc, actor)?;
-    let text = format!(in alloc; "refused down {actor} {since}")?;
-    Ok(text.into_bytes())
+    format!(in alloc; "refused down {actor} {since}")
 }

@@ -1,5 +1,6 @@
 //! The rows of reads as text.
 ghost use Rattle.std.specs.Prelude.{◌≡◌, ◌++◌, OnOk};
+ghost use Rattle.std.specs.Str.{IsAscii};
 ghost use Rattle.doc_value.specs.Reading.{value_of};
 ghost use Rattle.sub_doc_key.specs.Showing.{shown_value};
 ghost use Rattle.report_text.specs.Answer.{value_text, row_text};
@@ -12,7 +13,8 @@ use txn_types::{Bytes, Row};
 
 /// Puts a row at the end.
 pub(crate) fn put_row(alloc: Global, text: &mut Vec<u8>, row: &Row) -> Result<(), Memory>
-    ensures { OnOk result (text.new.items ≡ text.old.items ++ row_text row.now) }
+    ensures text { OnOk result (text.new.items ≡ text.old.items ++ row_text row.now) }
+    ensures ascii { OnOk result (IsAscii (row_text row.now)) }
 {
     text.push(b' ')?;
     path_text(&row.path, text)?;
@@ -21,7 +23,8 @@ pub(crate) fn put_row(alloc: Global, text: &mut Vec<u8>, row: &Row) -> Result<()
 }
 
 fn put_value(alloc: Global, text: &mut Vec<u8>, value: &Option<Bytes>) -> Result<(), Memory>
-    ensures { OnOk result (text.new.items ≡ text.old.items ++ value_text value.now) }
+    ensures text { OnOk result (text.new.items ≡ text.old.items ++ value_text value.now) }
+    ensures ascii { OnOk result (IsAscii (value_text value.now)) }
 {
     match value {
         Some(bytes) => put_bytes(alloc, text, bytes.items()),
@@ -31,7 +34,8 @@ fn put_value(alloc: Global, text: &mut Vec<u8>, value: &Option<Bytes>) -> Result
 
 /// Puts the value that the bytes spell at the end. Bytes that spell none have no text.
 fn put_bytes(alloc: Global, text: &mut Vec<u8>, bytes: &[u8]) -> Result<(), Memory>
-    ensures { OnOk result (text.new.items ≡ text.old.items ++ shown_value (value_of bytes.now)) }
+    ensures text { OnOk result (text.new.items ≡ text.old.items ++ shown_value (value_of bytes.now)) }
+    ensures ascii { OnOk result (IsAscii (shown_value (value_of bytes.now))) }
 {
     match doc_value::decode(alloc, bytes) {
         Ok(value) => value.text(text),

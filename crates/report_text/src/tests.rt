@@ -41,8 +41,8 @@ fn path_of(rt: &HostRuntime, escaped: &[u8]) -> Result<Path, Fail> {
 const SPECIAL: &[u8] = b"\x22\x5c\x00\x01\x1f\x20\x7e\x7f\xff";
 
 /// The line of what is told, as JSON or plain.
-fn line_of(rt: &HostRuntime, json: bool, told: &Told) -> Result<Vec<u8>, Fail> {
-    let mut text = Vec::new(rt.alloc());
+fn line_of(rt: &HostRuntime, json: bool, told: &Told) -> Result<String, Fail> {
+    let mut text = String::new(rt.alloc());
     put_line(
         rt.alloc(),
         &mut text,
@@ -92,8 +92,8 @@ fn answers_by_hand(rt: HostRuntime) -> Result<(), Fail> {
         let json = format!(in rt.alloc();
             "{{\"call\":\"1.1\",\"command\":\"put\",\"told\":\"{answer}\"}}\n"
         )?;
-        assert_eq!(rt; line_of(&rt, false, &told)?.as_slice(), plain.as_bytes());
-        assert_eq!(rt; line_of(&rt, true, &told)?.as_slice(), json.as_bytes());
+        assert_eq!(rt; line_of(&rt, false, &told)?.as_bytes(), plain.as_bytes());
+        assert_eq!(rt; line_of(&rt, true, &told)?.as_bytes(), json.as_bytes());
     }
     Ok(())
 }
@@ -154,8 +154,8 @@ fn refusals_by_hand(rt: HostRuntime) -> Result<(), Fail> {
         let json = format!(in rt.alloc();
             "{{\"call\":\"1.1\",\"command\":\"put\",\"told\":\"refused {answer}\"}}\n"
         )?;
-        assert_eq!(rt; line_of(&rt, false, &told)?.as_slice(), plain.as_bytes());
-        assert_eq!(rt; line_of(&rt, true, &told)?.as_slice(), json.as_bytes());
+        assert_eq!(rt; line_of(&rt, false, &told)?.as_bytes(), plain.as_bytes());
+        assert_eq!(rt; line_of(&rt, true, &told)?.as_bytes(), json.as_bytes());
     }
     Ok(())
 }
@@ -170,7 +170,7 @@ fn texts_by_hand(rt: HostRuntime) -> Result<(), Fail> {
         rows: Seq::new(rt.alloc()),
     };
     assert_eq!(rt;
-        line_of(&rt, false, &none)?.as_slice(),
+        line_of(&rt, false, &none)?.as_bytes(),
         b"1.1 put values at 1000000.3 restarts 0:\n".as_slice()
     );
     rows.push(Row {
@@ -190,11 +190,11 @@ fn texts_by_hand(rt: HostRuntime) -> Result<(), Fail> {
         rows,
     };
     assert_eq!(rt;
-        line_of(&rt, false, &values)?.as_slice(),
+        line_of(&rt, false, &values)?.as_bytes(),
         b"1.1 put values at 1000000.1 restarts 2: [;\"a\"]=- [;\"\\\"\\\\\\x00\\x1f ~\\x7f\\xff\"]=\"\\\"\\\\\\x00\\x1f ~\\x7f\\xff\"\n".as_slice()
     );
     assert_eq!(rt;
-        line_of(&rt, true, &values)?.as_slice(),
+        line_of(&rt, true, &values)?.as_bytes(),
         b"{\"call\":\"1.1\",\"command\":\"put\",\"told\":\"values at 1000000.1 restarts 2: [;\\\"a\\\"]=- [;\\\"\\\\\\\"\\\\\\\\\\\\x00\\\\x1f ~\\\\x7f\\\\xff\\\"]=\\\"\\\\\\\"\\\\\\\\\\\\x00\\\\x1f ~\\\\x7f\\\\xff\\\"\"}\n".as_slice()
     );
     let restart = Told::Refused(ToldRefusal::Restart {
@@ -202,11 +202,11 @@ fn texts_by_hand(rt: HostRuntime) -> Result<(), Fail> {
         path: path_of(&rt, SPECIAL)?,
     });
     assert_eq!(rt;
-        line_of(&rt, false, &restart)?.as_slice(),
+        line_of(&rt, false, &restart)?.as_bytes(),
         b"1.1 put refused restart 1000000.0 [;\"\\\"\\\\\\x00\\x1f ~\\x7f\\xff\"]\n".as_slice()
     );
     assert_eq!(rt;
-        line_of(&rt, true, &restart)?.as_slice(),
+        line_of(&rt, true, &restart)?.as_bytes(),
         b"{\"call\":\"1.1\",\"command\":\"put\",\"told\":\"refused restart 1000000.0 [;\\\"\\\\\\\"\\\\\\\\\\\\x00\\\\x1f ~\\\\x7f\\\\xff\\\"]\"}\n".as_slice()
     );
     Ok(())
@@ -222,11 +222,11 @@ fn totals_by_hand(rt: HostRuntime) -> Result<(), Fail> {
         reads: 2,
         restarts: 18_446_744_073_709_551_615,
     };
-    let mut text = Vec::new(rt.alloc());
+    let mut text = String::new(rt.alloc());
     put_total(rt.alloc(), &mut text, false, &counts, true)?;
     put_total(rt.alloc(), &mut text, true, &counts, false)?;
     assert_eq!(rt;
-        text.as_slice(),
+        text.as_bytes(),
         b"total commands=12 ok=8 refused=4 committed=3 reads=2 restarts=18446744073709551615 skew=ok\n\
         {\"commands\":12,\"committed\":3,\"ok\":8,\"reads\":2,\"refused\":4,\"restarts\":18446744073709551615,\"skew\":\"broken\"}\n"
             .as_slice()

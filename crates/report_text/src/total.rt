@@ -11,20 +11,20 @@ use std::alloc::Global;
 /// Puts the line of the total at the end, as JSON or plain. `agree` says whether clocks agreed.
 pub(crate) fn put_total(
     alloc: Global,
-    text: &mut Vec<u8>,
+    text: &mut String,
     json: bool,
     counts: &Counts,
     agree: bool,
 ) -> Result<(), Memory>
-    ensures { OnOk result (text.new.items ≡ text.old.items ++ total_text json counts.now agree) }
+    ensures { OnOk result (string_bytes text.new ≡ string_bytes text.old ++ total_text json counts.now agree) }
 {
     if json {
         let object = json_total(alloc, counts, agree)?;
-        text.extend_from_slice(object.as_slice())?;
-        text.extend_from_slice(b"\n")
+        text.push_str(&object)?;
+        text.push_str("\n")
     } else {
         let line = plain_total(alloc, counts, agree)?;
-        text.extend_from_slice(line.as_bytes())
+        text.push_str(&line)
     }
 }
 
@@ -53,11 +53,12 @@ fn plain_total(alloc: Global, counts: &Counts, agree: bool) -> Result<String, Me
 }
 
 /// The object of the total, in compact form with its keys in byte order.
-fn json_total(alloc: Global, counts: &Counts, agree: bool) -> Result<Vec<u8>, Memory>
-    ensures { IfOk result (λ object. object.items ≡ json_total counts.now agree) }
+fn json_total(alloc: Global, counts: &Counts, agree: bool) -> Result<String, Memory>
+    ensures { IfOk result (λ object. string_bytes object ≡ json_total counts.now agree) }
 {
     let value = total_value(alloc, counts, skew_text(agree))?;
-    value.to_vec(alloc)
+    let object = value.to_vec(alloc)?;
+    Ok(String::from_utf8(object).unwrap())
 }
 
 fn total_value(alloc: Global, counts: &Counts, skew: &str) -> Result<Value, Memory>

@@ -1,5 +1,5 @@
 -- The text of a path: one part more, and what it is where the parts are spelled.
-use Rattle.std.proofs.Common.{◌≡◌, ℕ, zero, suc, ◌+◌, ◌≤◌, List, [], ◌∷◌, ◌++◌, take, map, IsTrue, Result, Some, refl, sym, ap, ◌∙◌, append_assoc, arith}
+use Rattle.std.proofs.Common.{◌≡◌, ℕ, zero, suc, ◌+◌, ◌≤◌, List, [], ◌∷◌, ◌++◌, take, map, IsTrue, Result, Some, IsAscii, refl, sym, ap, ◌∙◌, append_assoc, arith}
 use Rattle.std.specs.Prelude.{slice_get}
 use Rattle.std.specs.List.{flat_map, list_all, AllByRecursion}
 use Rattle.std.proofs.Math.Seq.{take-suc}
@@ -7,6 +7,8 @@ use Rattle.std.proofs.lemmas.List.{append-nil}
 use Rattle.std.proofs.lemmas.List.Concat.{flat_map-append}
 use Rattle.std.proofs.lemmas.Option.{slice_get_within, get_or_from_slice_get}
 use Rattle.std.proofs.lemmas.Bool.{and_parts}
+use Rattle.std.proofs.lemmas.Str.{IsAscii-append}
+use Rattle.std.proofs.lemmas.Str.Ascii.{IsAscii-cons}
 use Rattle.doc_path.specs.Path.{Parts}
 use Rattle.doc_value.specs.declared.key_refusal.KeyRefusal.{KeyRefusal}
 use Rattle.doc_value.specs.declared.primitive.Primitive.{Primitive}
@@ -50,6 +52,13 @@ shown_step old so_far slashed new path i part at some first second third =
     ∙ append_assoc (old ++ shown_path (take i path)) (47 ∷ []) (shown_value (value_of part))
     ∙ append_assoc old (shown_path (take i path)) (subkey_text part)
     ∙ ap (λ (t : List ℕ). old ++ t) (sym (shown_more path i part at some))
+
+-- what is shown of one part more is ASCII too
+pub ascii_step : (path : Parts) (i : ℕ) (part : List ℕ) → slice_get path i ≡ Some part → 1 ≤ i → IsAscii (shown_path (take i path))
+    → IsAscii (shown_value (value_of part)) → IsAscii (shown_path (take (i + 1) path))
+ascii_step path i part at some so_far here =
+    rw (shown_more path i part at some)
+    (IsAscii-append (shown_path (take i path)) (subkey_text part) so_far (IsAscii-cons 47 (shown_value (value_of part)) (omega arith) here))
 
 -- ---- what the parts spell
 

@@ -1,5 +1,6 @@
 //! The text of a path.
 ghost use Rattle.std.specs.Prelude.{◌≡◌, ◌++◌, length, take, OnOk, OnErr};
+ghost use Rattle.std.specs.Str.{IsAscii};
 ghost use Rattle.doc_value.specs.Reading.{value_of};
 ghost use Rattle.doc_key.specs.Reading.{key_of};
 ghost use Rattle.sub_doc_key.specs.Showing.{shown_key, shown_value, shown_path};
@@ -11,6 +12,7 @@ use std::alloc::AllocError;
 
 fn show_key(part: &[u8], out: &mut Vec<u8>) -> Result<(), Memory>
     ensures ok { OnOk result (out.new.items ≡ out.old.items ++ shown_key (key_of part.now)) }
+    ensures ascii { OnOk result (IsAscii (shown_key (key_of part.now))) }
     ensures memory { OnErr result (out.new.items ≡ out.old.items) }
 {
     match doc_key::decode(*out.allocator(), part) {
@@ -22,6 +24,7 @@ fn show_key(part: &[u8], out: &mut Vec<u8>) -> Result<(), Memory>
 
 fn show_value(part: &[u8], out: &mut Vec<u8>) -> Result<(), Memory>
     ensures ok { OnOk result (out.new.items ≡ out.old.items ++ shown_value (value_of part.now)) }
+    ensures ascii { OnOk result (IsAscii (shown_value (value_of part.now))) }
     ensures memory { OnErr result (out.new.items ≡ out.old.items) }
 {
     match doc_value::decode(*out.allocator(), part) {
@@ -33,6 +36,7 @@ fn show_value(part: &[u8], out: &mut Vec<u8>) -> Result<(), Memory>
 
 fn show(path: &Path, out: &mut Vec<u8>) -> Result<(), Memory>
     ensures ok { OnOk result (out.new.items ≡ out.old.items ++ shown_path path.now) }
+    ensures ascii { OnOk result (IsAscii (shown_path path.now)) }
     ensures memory { OnErr result (take (length out.old.items) out.new.items ≡ out.old.items) }
 {
     let parts = path.parts();
@@ -48,6 +52,7 @@ fn show(path: &Path, out: &mut Vec<u8>) -> Result<(), Memory>
 /// where one has to stand, has no text. If memory runs out, `out` is as before.
 pub fn path_text(path: &Path, out: &mut Vec<u8>) -> Result<(), Memory>
     ensures ok { OnOk result (out.new.items ≡ out.old.items ++ shown_path path.now) }
+    ensures ascii { OnOk result (IsAscii (shown_path path.now)) }
     ensures memory { OnErr result (out.new.items ≡ out.old.items) }
 {
     let before = out.len();
