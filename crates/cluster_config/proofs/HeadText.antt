@@ -1,14 +1,14 @@
 -- What is printed for the table of a configuration is the text of its head, and it says this configuration.
-use Rattle.std.proofs.Common.{◌≡◌, ◌∙◌, ◌<◌, ◌≤◌, ◌∷◌, ◌++◌, refl, ℕ, Bool, true, false, cond, ◌&&◌, List, [], pos, arith, length, codes, decimal, flat_map, map, ap, sym, subst, append_assoc}
+use Rattle.std.proofs.Common.{◌≡◌, ◌∙◌, ◌≤◌, ◌∷◌, ◌++◌, refl, ℕ, Bool, true, false, List, [], pos, arith, codes, decimal, flat_map, map, ap, sym, subst, append_assoc}
 use Rattle.std.specs.List.{All, AllByRecursion}
 use Rattle.std.specs.Int.{w64}
 use Rattle.std.specs.Int.RustNames.{FitsSigned}
 use Rattle.std.specs.Prelude.{Ok}
 use Rattle.std.proofs.lemmas.Int.{ints}
 use Rattle.std.proofs.lemmas.List.Elements.{All-head, All-tail}
-use Rattle.toml.specs.Data.{Data, string, integer, array, Items, no_items, item, Members, items_are_sorted, items_have_valid_dates, members_are_sorted, members_have_valid_dates}
+use Rattle.toml.specs.Data.{Data, string, array, items_are_sorted, items_have_valid_dates, members_are_sorted, members_have_valid_dates}
 use Rattle.toml.specs.Tables.{key_value, Expression}
-use Rattle.toml.specs.Text.{IsDocumentText, IsItemsText, IsLinesText, IsLineText, IsValueText, breaks_lines, expressions, is_section, section}
+use Rattle.toml.specs.Text.{IsDocumentText, IsItemsText, IsLinesText, IsValueText, breaks_lines, expressions, is_section, section}
 use Rattle.toml.proofs.ReadBack.{parse_document-printed}
 use Rattle.toml_writer.specs.Text.{encoding_of, escaped, key_text, needs_escape, quotes_after, string_text}
 use Rattle.txn_data.specs.declared.config.Config.{Config}

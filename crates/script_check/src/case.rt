@@ -1,7 +1,9 @@
 //! A case: the bytes of a script, or a script that is made.
-ghost use Rattle.std.specs.Prelude.{◌<◌, IfOk};
+ghost use Rattle.std.specs.Prelude.{◌≡◌, ◌<◌, ◌⊎◌, IfErr, IfOk, IfSome, IsNone, Ok, Err, max, min};
 ghost use Rattle.cluster_config.specs.Head.{IsSpelled};
 ghost use Rattle.script_text.specs.Saying.{IsSaid};
+ghost use Rattle.script_text.specs.Script.{script_of};
+ghost use Rattle.load_maker.specs.Made as load;
 
 use crate::piece::Piece;
 use docdb_base::Memory;
@@ -14,8 +16,10 @@ use txn_data::{Commands, Config};
 #[derive(Drop)]
 pub struct Case {
     alloc: Global,
-    text: Vec<u8>,
-    made: Option<(u32, u64)>,
+    /// The bytes of its lines.
+    pub text: Vec<u8>,
+    /// How many blocks a made script has, and the number that it is made from.
+    pub made: Option<(u32, u64)>,
 }
 
 impl Case {
@@ -42,7 +46,15 @@ impl Case {
 
     /// The script, or why it is none. A made script has 1 to 10,000 blocks: the nearest of these.
     pub fn read(&self) -> Result<(Config, Commands), ScriptRefusal>
-        ensures { IfOk result (λ x. IsSpelled x.0 × IsSaid x.0 x.1) }
+        ensures ok { IsNone self.now.made → IfOk result (λ x. script_of self.now.text.items ≡ Ok x) }
+        ensures refused { IsNone self.now.made
+            → IfErr result (λ e. (e ≡ ScriptRefusal.Memory) ⊎ (script_of self.now.text.items ≡ Err e)) }
+        ensures cluster { IfSome self.now.made (λ m. IfOk result (λ x. x.0 ≡ load.cluster)) }
+        ensures plan { IfSome self.now.made (λ m. IfOk result (λ x. x.1 ≡ load.made (max 1 (min m.0 10000)) m.1)) }
+        ensures memory { IfSome self.now.made (λ m. IfErr result (λ e. e ≡ ScriptRefusal.Memory)) }
+        // What a script says, read or made, can be written.
+        ensures spelled { IfOk result (λ x. IsSpelled x.0) }
+        ensures said { IfOk result (λ x. IsSaid x.0 x.1) }
     {
         match self.made {
             None => read_script(self.alloc, self.text.as_slice()),

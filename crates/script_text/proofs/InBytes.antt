@@ -1,5 +1,5 @@
 -- The texts of values and keys whose spellings are bytes are of bytes.
-use Rattle.std.proofs.Common.{◌≡◌, ℕ, zero, suc, ◌<◌, List, [], ◌∷◌, ◌++◌, map, All, refl, arith}
+use Rattle.std.proofs.Common.{ℕ, zero, suc, ◌<◌, List, [], ◌∷◌, ◌++◌, map, All, refl, arith}
 use Rattle.std.specs.Int.{w16, to_be_bytes}
 use Rattle.std.specs.List.{AllByRecursion}
 use Rattle.std.proofs.lemmas.List.{append-nil}
@@ -12,8 +12,6 @@ use Rattle.doc_value.specs.declared.primitive.Primitive.TheVariants.{Int, Text a
 use Rattle.doc_value.specs.Reading.{IsBytes}
 use Rattle.doc_value.specs.Spelling as of_value
 use Rattle.doc_value.proofs.Steps.{IsBytes-behind}
-use Rattle.script_text.specs.declared.document.Document.{Document}
-use Rattle.script_text.specs.Terms.{path_for}
 
 abbrev pub IsByte : ℕ → Type 0
 IsByte b = b < 256

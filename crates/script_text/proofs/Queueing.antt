@@ -1,5 +1,5 @@
 -- The commands that sessions have left, one line on.
-use Rattle.std.proofs.Common.{◌≡◌, ℕ, zero, suc, ◌+◌, ◌<◌, ◌≤◌, ◌⊎◌, cond, List, [], ◌∷◌, ◌++◌, length, replicate, take, drop, set, map, All, flat_map, slice_index_or, nat_eq, inl, inr, refl, sym, ap, subst, ◌∙◌, arith, take-add}
+use Rattle.std.proofs.Common.{◌≡◌, ℕ, zero, suc, ◌+◌, ◌<◌, ◌≤◌, ◌⊎◌, cond, List, [], ◌∷◌, ◌++◌, length, replicate, take, drop, set, All, flat_map, slice_index_or, nat_eq, inl, inr, refl, sym, ap, subst, ◌∙◌, arith, take-add}
 use denote.Ref.{Bor}
 use Rattle.std.specs.Prelude.{◌-◌, get_or}
 use Rattle.std.proofs.lemmas.Bool.{cases_eq, eq-eqb, ne_eqb}
@@ -12,7 +12,6 @@ use Rattle.txn_types.specs.Script.{commands_of, count}
 use Rattle.script_text.specs.Lines.{Text}
 use Rattle.script_text.specs.Queues.{lists_of, queue_of}
 use Rattle.script_text.specs.Written.{IsInBytes, left, line_text, told_line, told_lines}
-use Rattle.script_text.proofs.Heard.{count_push}
 use Rattle.script_text.proofs.Regrouping.{count_other, count_own}
 
 pub own_queue : (items : List (Bor (List Command))) (s : ℕ) (q : Bor (List Command)) → s < length items → q ≡ get_or items s q → queue_of items s ≡ q.now

@@ -1,7 +1,7 @@
 -- The commands of the sessions, taken in line order, are put together to the same sessions.
-use Rattle.std.proofs.Common.{◌≡◌, ℕ, zero, suc, ◌+◌, ◌-◌, ◌<◌, ◌≤◌, ◌⊎◌, Bool, true, false, cond, List, [], ◌∷◌, ◌++◌, length, take, drop, All, nat_eq, nat_lt, get_or, inl, inr, refl, sym, ap, subst, ◌∙◌, arith}
-use Rattle.std.proofs.lemmas.Bool.{cases_eq, cases_lt, eq-eqb, eqb-true, le-ltb, lt-ltb, ne_eqb}
-use Rattle.std.proofs.lemmas.List.{append-nil, append_assoc, drop_all, take_all}
+use Rattle.std.proofs.Common.{◌≡◌, ℕ, zero, suc, ◌+◌, ◌<◌, ◌≤◌, ◌⊎◌, true, false, List, [], ◌∷◌, ◌++◌, length, take, drop, All, nat_eq, inl, inr, refl, sym, ap, subst, ◌∙◌, arith}
+use Rattle.std.proofs.lemmas.Bool.{cases_eq, cases_lt, eq-eqb, le-ltb, lt-ltb, ne_eqb}
+use Rattle.std.proofs.lemmas.List.{take_all}
 use Rattle.std.proofs.lemmas.List.Elements.{All-head, All-tail}
 use Rattle.txn_data.specs.declared.command.Command.{Command}
 use Rattle.txn_data.specs.declared.config.Config.{Config}
@@ -11,7 +11,7 @@ use Rattle.txn_types.specs.Script.{commands_of, count}
 use Rattle.script_text.specs.Saying.{IsSpeaker}
 use Rattle.script_text.specs.Script.{with_told}
 use Rattle.script_text.specs.Written.{left}
-use Rattle.script_text.proofs.Heard.{RiseAbove, count_push, none_above, one_if}
+use Rattle.script_text.proofs.Heard.{RiseAbove, count_push, none_above}
 
 -- the sessions rise from one on
 rise_above : (config : Config) (n : ℕ) (plans : List SessionPlan) → AreRising plans → ((p : SessionPlan) (ps : List SessionPlan) → plans ≡ p ∷ ps → n < p.session) → RiseAbove n plans

@@ -1,10 +1,10 @@
 -- The text of a value is read as this value.
-use Rattle.std.proofs.Common.{◌≡◌, ℕ, suc, ◌+◌, ◌-◌, ◌*◌, ◌/◌, ◌%◌, ◌^◌, ◌<◌, ◌≤◌, ◌⊎◌, Bool, true, false, cond, not, ◌&&◌, ◌||◌, ℤ, pos, negsuc, List, [], ◌∷◌, ◌++◌, length, Option, Some, None, nat_eq, nat_le, nat_lt, decimal, flat_map, codes, bytes_eq, refl, sym, ap, subst, ◌∙◌, arith, inl, inr}
+use Rattle.std.proofs.Common.{◌≡◌, ℕ, suc, ◌+◌, ◌-◌, ◌*◌, ◌/◌, ◌%◌, ◌^◌, ◌<◌, ◌≤◌, ◌⊎◌, Bool, true, false, cond, ◌&&◌, ◌||◌, pos, negsuc, List, [], ◌∷◌, ◌++◌, length, Some, nat_eq, nat_le, decimal, flat_map, codes, refl, sym, ap, subst, ◌∙◌, arith, inl, inr}
 use Rattle.std.specs.Int.{w64}
 use Rattle.std.specs.Int.RustNames.{FitsSigned}
 use Rattle.std.specs.List.{AllByRecursion, list_all}
 use Rattle.std.specs.Prelude.{option_map, option_and_then}
-use Rattle.std.proofs.lemmas.Bool.{and_from, and_parts, cases_lt, eq-eqb, eqb-true, le-leb, le-ltb, leb-true, lt-leb, lt-ltb, ne_eqb, or_cases, or_parts}
+use Rattle.std.proofs.lemmas.Bool.{and_from, and_parts, cases_lt, eqb-true, le-leb, le-ltb, leb-true, lt-leb, lt-ltb, ne_eqb, or_cases, or_parts}
 use Rattle.std.proofs.lemmas.Int.{ints}
 use Rattle.std.proofs.lemmas.List.{append_assoc}
 use Rattle.doc_key.specs.Spelling as of_key
@@ -15,12 +15,12 @@ use Rattle.doc_value.specs.Spelling as of_value
 use Rattle.script_text.specs.declared.in_string.InString.TheVariants.{Plain}
 use Rattle.script_text.specs.declared.marks.Marks.{Marks}
 use Rattle.script_text.specs.declared.marks.Marks.TheVariants.{OfLine, OfPath}
-use Rattle.script_text.specs.declared.within.Within.TheVariants.{Outside, Inside, Behind}
+use Rattle.script_text.specs.declared.within.Within.TheVariants.{Outside, Inside}
 use Rattle.script_text.specs.Lines.{Text}
-use Rattle.script_text.specs.Terms.{column_of, first_digit, hex_value, if_spelled, integer_of, is_digit, onto, second_digit, string_in, subkey_of, number_in}
+use Rattle.script_text.specs.Terms.{column_of, hex_value, if_spelled, integer_of, is_digit, onto, string_in, subkey_of, number_in}
 use Rattle.script_text.proofs.Digits.{Spells, decimal_spells, number_again}
 use Rattle.script_text.proofs.InBytes.{IsByte, IsOfBytes}
-use Rattle.script_text.proofs.Staying.{Stands, decimal_stands, is_plain, is_printed, plain_append, stands_append}
+use Rattle.script_text.proofs.Staying.{Stands, decimal_stands, is_printed, stands_append}
 
 -- ---- hexadecimal digits
 

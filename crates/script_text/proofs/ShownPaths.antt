@@ -1,14 +1,12 @@
 -- The text of a path is read as this path, and the text of a place as this place.
-use Rattle.std.proofs.Common.{◌≡◌, ℕ, ◌+◌, ◌<◌, ◌≤◌, Bool, true, false, cond, not, ◌&&◌, List, [], ◌∷◌, ◌++◌, length, map, Option, Some, None, nat_eq, nat_le, flat_map, All, codes, bytes_eq, refl, sym, ap, subst, ◌∙◌, arith}
+use Rattle.std.proofs.Common.{◌≡◌, ℕ, ◌+◌, ◌<◌, Bool, true, false, ◌&&◌, List, [], ◌∷◌, ◌++◌, length, map, Option, Some, nat_eq, nat_le, flat_map, All, codes, bytes_eq, refl, sym, ap, subst, ◌∙◌, arith}
 use Rattle.std.specs.List.{AllByRecursion, list_all}
-use Rattle.std.specs.Prelude.{IsTrue, option_map, option_and_then}
+use Rattle.std.specs.Prelude.{option_map}
 use Rattle.std.proofs.lemmas.Bool.{and_parts}
 use Rattle.std.proofs.lemmas.List.{append-nil, append_assoc}
 use Rattle.std.proofs.lemmas.List.Elements.{All-head, All-tail}
-use Rattle.doc_key.specs.declared.doc_key.DocKey.{DocKey}
 use Rattle.doc_key.specs.Showing as of_key_text
 use Rattle.doc_key.specs.Spelling as of_key
-use Rattle.doc_value.specs.declared.key_refusal.KeyRefusal.{KeyRefusal}
 use Rattle.doc_value.specs.declared.primitive.Primitive.{Primitive}
 use Rattle.doc_value.specs.declared.primitive.Primitive.TheVariants.{Int, Text as TextCase, False, True, Column}
 use Rattle.doc_value.specs.Reading.{IsBytes}
@@ -22,14 +20,13 @@ use Rattle.txn_data.specs.declared.config.Config.{Config}
 use Rattle.txn_data.specs.declared.place.Place.{Place}
 use Rattle.script_text.specs.declared.document.Document.{Document}
 use Rattle.script_text.specs.declared.marks.Marks.TheVariants.{OfLine, OfPath}
-use Rattle.script_text.specs.declared.part_kind.PartKind.{PartKind}
 use Rattle.script_text.specs.declared.part_kind.PartKind.TheVariants.{OfKey, BehindKey}
-use Rattle.script_text.specs.declared.within.Within.TheVariants.{Outside, Inside, Behind}
+use Rattle.script_text.specs.declared.within.Within.TheVariants.{Outside}
 use Rattle.script_text.specs.Lines.{Text}
 use Rattle.script_text.specs.Saying.{IsColumn, IsPlaced}
-use Rattle.script_text.specs.Terms.{Group, columns_to, document_behind, document_in, document_of, group_step, group_to, if_document, is_document, onto_group, part_of}
+use Rattle.script_text.specs.Terms.{Group, columns_to, document_behind, document_of, group_to, is_document, onto_group}
 use Rattle.script_text.specs.Terms.{path_for, place_for, place_of, subkeys_in, value_of}
-use Rattle.script_text.specs.Words.{Piece, is_empty, onto_piece, parts, pieces_in, pieces_of}
+use Rattle.script_text.specs.Words.{Piece, onto_piece, parts, pieces_in, pieces_of}
 use Rattle.script_text.specs.Written.{path_word, value_word}
 use Rattle.script_text.proofs.InBytes.{IsOfBytes, KeyIsOfBytes, key_bytes, subkeys_bytes, value_bytes}
 use Rattle.script_text.proofs.Parting.{onto_front}

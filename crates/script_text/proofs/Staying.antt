@@ -1,19 +1,19 @@
 -- Texts within which no byte parts, as they stand in lines and paths that are written.
-use Rattle.std.proofs.Common.{◌≡◌, ℕ, ◌+◌, ◌<◌, ◌≤◌, ◌^◌, Bool, true, false, cond, not, ◌&&◌, ◌||◌, List, [], ◌∷◌, ◌++◌, length, map, Option, Some, None, nat_eq, nat_le, decimal, refl, sym, ap, ◌∙◌, arith, IsAscii, flat_map, filter}
+use Rattle.std.proofs.Common.{◌≡◌, ℕ, ◌<◌, ◌≤◌, ◌^◌, Bool, true, false, cond, ◌&&◌, List, [], ◌∷◌, ◌++◌, length, Option, Some, None, nat_eq, nat_le, decimal, refl, sym, ap, ◌∙◌, arith, IsAscii, flat_map}
 use Rattle.std.specs.List.{AllByRecursion, list_all}
 use Rattle.std.proofs.lemmas.Bool.{and_from, and_parts, le-leb, leb-true, ne_eqb, or_from}
-use Rattle.std.proofs.lemmas.List.{append-nil, append_assoc}
+use Rattle.std.proofs.lemmas.List.{append-nil}
 use Rattle.std.proofs.lemmas.List.Folds.{list_all-append}
 use Rattle.std.proofs.lemmas.Str.Ascii.{IsAscii-cons, IsAscii-nil}
 use Rattle.script_text.specs.declared.marks.Marks.{Marks}
 use Rattle.script_text.specs.declared.marks.Marks.TheVariants.{OfLine, OfPath}
 use Rattle.script_text.specs.declared.within.Within.{Within}
-use Rattle.script_text.specs.declared.within.Within.TheVariants.{Outside, Inside, Behind}
+use Rattle.script_text.specs.declared.within.Within.TheVariants.{Outside}
 use Rattle.script_text.specs.Lines.{Text, lines_of, onto_first}
 use Rattle.script_text.specs.Terms.{is_digit}
-use Rattle.script_text.specs.Words.{Piece, after, is_empty, is_mark, onto_piece, parts, pieces_in, pieces_of, with_byte, words_in, words_of}
+use Rattle.script_text.specs.Words.{Piece, after, is_mark, onto_piece, parts, pieces_in, pieces_of, with_byte, words_in, words_of}
 use Rattle.script_text.specs.Written.{behind_space, spaced}
-use Rattle.script_text.proofs.Digits.{Spells, decimal_spells}
+use Rattle.script_text.proofs.Digits.{decimal_spells}
 use Rattle.script_text.proofs.Parting.{mark_outside, onto_front, onto_front-first}
 
 abbrev piece : Text → ℕ → Piece

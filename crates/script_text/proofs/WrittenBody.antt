@@ -1,5 +1,5 @@
 -- The lines of a body that is written say its plan.
-use Rattle.std.proofs.Common.{◌≡◌, ℕ, zero, suc, ◌+◌, ◌-◌, ◌<◌, ◌≤◌, Bool, true, false, cond, not, ◌&&◌, List, [], ◌∷◌, ◌++◌, length, take, drop, map, set, get_or, replicate, Option, Some, None, Ok, Err, Result, nat_eq, nat_le, All, slice_index_or, refl, sym, ap, subst, ◌∙◌, arith, inl, inr, flat_map}
+use Rattle.std.proofs.Common.{◌≡◌, ℕ, zero, suc, ◌+◌, ◌<◌, ◌≤◌, Bool, true, false, List, [], ◌∷◌, ◌++◌, length, drop, map, set, get_or, Option, Some, None, Ok, nat_le, All, slice_index_or, refl, sym, ap, subst, ◌∙◌, arith, inl, inr}
 use Rattle.std.specs.List.{AllByRecursion}
 use Rattle.std.proofs.lemmas.Bool.{cases_eq, cases_lt, eq-eqb, lt-leb, ne_eqb}
 use Rattle.std.proofs.lemmas.List.{append-nil, append_assoc, drop_more, get_or-set_other, get_or-set_same, length-append, length-set, set_past, take_all}
@@ -11,21 +11,19 @@ use Rattle.txn_data.specs.declared.config.Config.{Config}
 use Rattle.txn_data.specs.declared.go_line.GoLine.{GoLine}
 use Rattle.txn_data.specs.declared.mover.Mover.{Mover}
 use Rattle.txn_data.specs.declared.mover.Mover.TheVariants.{Session, Applier}
-use Rattle.txn_data.specs.declared.schedule.Schedule.TheVariants.{Go}
 use Rattle.txn_data.specs.declared.session_plan.SessionPlan.{SessionPlan}
 use Rattle.txn_types.specs.Plan.{IsSession}
 use Rattle.txn_types.specs.Script.{commands_of, count}
 use Rattle.cluster_config.specs.Head.{IsSpelled}
 use Rattle.script_text.specs.declared.line.Line.{Line}
 use Rattle.script_text.specs.declared.line.Line.TheVariants.{Told, Goes}
-use Rattle.script_text.specs.declared.script_refusal.ScriptRefusal.{ScriptRefusal}
-use Rattle.script_text.specs.Commands.{Read, flags_over, is_go, is_passed, line_of, no_flags, session_in, with_flag}
+use Rattle.script_text.specs.Commands.{flags_over, is_go, is_passed, line_of, no_flags, session_in, with_flag}
 use Rattle.script_text.specs.Lines.{Text}
 use Rattle.script_text.specs.Saying.{IsMove, IsMover, IsSaid, IsSpeaker, IsSpoken}
-use Rattle.script_text.specs.Script.{and_lines, at_line, body_of, body_over, is_full, line_after, nothing_said, said_after}
+use Rattle.script_text.specs.Script.{body_of, body_over, is_full, line_after, said_after}
 use Rattle.script_text.specs.Words.{words_of}
 use Rattle.script_text.specs.Written.{AreInBytes, IsInBytes, body_lines, go_words, left, spaced, told_line, told_lines, told_words}
-use Rattle.script_text.proofs.Heard.{IsFlag, RiseAbove, one_if}
+use Rattle.script_text.proofs.Heard.{IsFlag, RiseAbove}
 use Rattle.script_text.proofs.Queueing.{AreOfBytes}
 use Rattle.script_text.proofs.Regrouping.{all_so_far, none_so_far, one_more, rise, so_far}
 use Rattle.script_text.proofs.Staying.{IsWord, is_plain, spaced_plain, words_again}

@@ -1,5 +1,5 @@
 -- The text of a script that is written says its cluster and its plan.
-use Rattle.std.proofs.Common.{◌≡◌, ℕ, ◌+◌, ◌<◌, ◌≤◌, Bool, true, false, cond, not, List, [], ◌∷◌, ◌++◌, length, map, Option, Some, None, Ok, Result, nat_lt, decimal, flat_map, codes, bytes_eq, IsAscii, refl, sym, ap, subst, ◌∙◌, arith}
+use Rattle.std.proofs.Common.{◌≡◌, ℕ, ◌≤◌, true, false, List, [], ◌∷◌, ◌++◌, length, map, Some, Ok, decimal, flat_map, codes, bytes_eq, IsAscii, refl, sym, ap, subst, ◌∙◌, arith}
 use Rattle.std.specs.List.{All, AllByRecursion}
 use Rattle.std.specs.Str.{is_utf8}
 use Rattle.std.proofs.lemmas.Bool.{le-ltb}
@@ -18,9 +18,9 @@ use Rattle.cluster_config.specs.Head.{IsSpelled, head_of, largest}
 use Rattle.cluster_config.specs.Table.{schedule_text}
 use Rattle.cluster_config.specs.Written.{ended, head_lines, head_text, listed}
 use Rattle.script_text.specs.declared.marks.Marks.TheVariants.{OfLine}
-use Rattle.script_text.specs.Lines.{Parts, Text, lines_of, parts_of, with_line}
+use Rattle.script_text.specs.Lines.{Text, lines_of, parts_of}
 use Rattle.script_text.specs.Saying.{IsSaid}
-use Rattle.script_text.specs.Script.{most_bytes, script_in, script_of}
+use Rattle.script_text.specs.Script.{most_bytes, script_of}
 use Rattle.script_text.specs.Written.{AreInBytes, body_lines, go_words, line_text, spaced, told_lines, written}
 use Rattle.script_text.proofs.Kept.{behind}
 use Rattle.script_text.proofs.Staying.{decimal_stands, is_plain, line_ends, plain_append, plain_ascii}

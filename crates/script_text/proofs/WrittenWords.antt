@@ -1,8 +1,7 @@
 -- The words of commands and moves that are written say these commands and moves.
-use Rattle.std.proofs.Common.{◌≡◌, ℕ, zero, suc, ◌+◌, ◌-◌, ◌^◌, ◌<◌, ◌≤◌, Bool, true, false, cond, not, ◌&&◌, List, [], ◌∷◌, ◌++◌, length, take, drop, map, Option, Some, None, Ok, Err, nat_eq, nat_le, decimal, All, codes, bytes_eq, slice_index_or, refl, sym, ap, subst, ◌∙◌, arith}
+use Rattle.std.proofs.Common.{◌≡◌, ℕ, zero, suc, ◌-◌, ◌^◌, ◌<◌, ◌≤◌, Bool, true, false, List, [], ◌∷◌, ◌++◌, length, take, drop, map, Some, None, Ok, nat_eq, nat_le, decimal, All, codes, bytes_eq, refl, ap, ◌∙◌, arith}
 use Rattle.std.specs.List.{AllByRecursion, list_all}
-use Rattle.std.specs.Prelude.{option_map, option_and_then}
-use Rattle.std.proofs.lemmas.Bool.{and_parts, eq-eqb, le-leb, leb-true, ne_eqb}
+use Rattle.std.proofs.lemmas.Bool.{and_parts, le-leb, leb-true, ne_eqb}
 use Rattle.std.proofs.lemmas.List.{drop_at, length-map, length_push, take_at}
 use Rattle.std.proofs.lemmas.List.Elements.{All-head, All-tail}
 use Rattle.doc_value.specs.Reading.{IsBytes}
@@ -15,17 +14,16 @@ use Rattle.txn_data.specs.declared.go_line.GoLine.{GoLine}
 use Rattle.txn_data.specs.declared.mover.Mover.{Mover}
 use Rattle.txn_data.specs.declared.mover.Mover.TheVariants as of_mover
 use Rattle.txn_data.specs.declared.place.Place.{Place}
-use Rattle.txn_data.specs.declared.schedule.Schedule.{Schedule}
 use Rattle.txn_data.specs.declared.schedule.Schedule.TheVariants.{Go}
 use Rattle.txn_types.specs.Plan.{CanRestart, IsCluster, IsSession}
 use Rattle.cluster_config.specs.Head.{IsSpelled, largest}
 use Rattle.script_text.specs.declared.line.Line.TheVariants.{Told, Goes}
 use Rattle.script_text.specs.declared.marks.Marks.TheVariants.{OfLine}
 use Rattle.script_text.specs.declared.within.Within.TheVariants.{Outside}
-use Rattle.script_text.specs.Commands.{Read, ◌>>=◌, actor, begins_remark, command_of, go_in, is_go, is_passed, line_of, mover, mover_or, numbered, or_why, paths, read_of, session_before, session_in, session_of, spoken, strict_of, tablet, told_of}
+use Rattle.script_text.specs.Commands.{begins_remark, is_go, is_passed, line_of, mover, numbered, paths, session_before, session_in, session_of, told_of}
 use Rattle.script_text.specs.Lines.{Text}
 use Rattle.script_text.specs.Saying.{IsPlaced, IsSpoken}
-use Rattle.script_text.specs.Terms.{is_digit, number_in, place_of}
+use Rattle.script_text.specs.Terms.{is_digit, number_in}
 use Rattle.script_text.specs.Written.{IsInBytes, actor_word, command_words, go_words, mover_word, path_word, priority_words, strict_words, told_words, value_word}
 use Rattle.script_text.proofs.Digits.{Spells, decimal_spells, number_again}
 use Rattle.script_text.proofs.Heard.{IsFlag, IsFlagged}

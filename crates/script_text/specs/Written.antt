@@ -1,5 +1,5 @@
 -- The text of a script that is written: the head, three dashes, a line for each command in line order, and the moves.
-use Rattle.std.specs.Prelude.{ℕ, zero, suc, ◌≡◌, ◌<◌, Bool, true, false, List, [], ◌∷◌, ◌++◌, codes, decimal, drop, length, map}
+use Rattle.std.specs.Prelude.{ℕ, zero, suc, Bool, true, false, List, [], ◌∷◌, ◌++◌, codes, decimal, drop, map}
 use Rattle.std.specs.List.{All, flat_map}
 use Rattle.doc_value.specs.Reading.{IsBytes, value_of}
 use Rattle.sub_doc_key.specs.Showing.{shown_path, shown_value}

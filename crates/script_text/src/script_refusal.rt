@@ -33,6 +33,11 @@ impl<T: Drop> From<AllocFailed<T>> for ScriptRefusal {
 }
 
 impl fmt::Display for ScriptRefusal {
+    ghost use Rattle.std.specs.Prelude.{Some};
+    ghost use Rattle.script_text.specs.Shown.{refusal_text};
+
+    ghost output = { λ refusal. Some (refusal_text refusal) };
+
     fn fmt<W: fmt::Write>(&self, f: &mut fmt::Formatter<W>) -> fmt::Result {
         match self {
             ScriptRefusal::ScriptRefused { line, why } => write!(

@@ -30,12 +30,12 @@ fn write_lettered(letter: u8, number: u32, out: &mut Vec<u8>) -> Result<(), Memo
     write_number(number as u64, out)
 }
 
-/// A slice of bytes has bytes.
+/// What a slice of bytes holds is bytes. A contract learns it here, where the slice is at hand.
 fn are_bytes(bytes: &[u8])
     ensures { IsBytes bytes.now }
 {}
 
-/// The parts of a path are of bytes.
+/// The same of each part of a path.
 fn is_of_bytes(path: &Path)
     ensures { All IsBytes path.now }
 {

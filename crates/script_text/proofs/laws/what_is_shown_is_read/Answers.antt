@@ -1,7 +1,6 @@
-use Rattle.std.proofs.Common.{◌≡◌, ◌∙◌, ap, sym, append-nil, List, [], ◌∷◌, ◌++◌, ℕ, Some, map, refl}
+use Rattle.std.proofs.Common.{◌∙◌, ap, sym, append-nil, List, [], ℕ, map, refl}
 use Rattle.std.specs.Prelude.{option_map}
 use Rattle.std.proofs.lemmas.List.Elements.{All-head, All-tail}
-use Rattle.doc_key.specs.declared.doc_key.DocKey.{DocKey}
 use Rattle.doc_key.specs.Showing as of_key_text
 use Rattle.doc_key.specs.Spelling as of_key
 use Rattle.doc_value.specs.Reading.{IsBytes}

@@ -1,4 +1,4 @@
-use Rattle.std.proofs.Common.{◌++◌, ◌∙◌, List, ℕ, ap, append_assoc, codes}
+use Rattle.std.proofs.Common.{◌++◌, ◌∙◌, List, ℕ, ap, codes}
 use Rattle.cluster_config.specs.Written.{head_text}
 use Rattle.script_text.proofs.Kept.{behind}
 use Rattle.script_text.proofs.writing.write_top.Goals as goal
