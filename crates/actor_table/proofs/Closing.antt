@@ -15,7 +15,7 @@ use Rattle.actor_table.specs.History.{HistoryEntry, most_entries, UsesEarlier, I
 use Rattle.actor_table.specs.Rule.{Spot, used_by, Uses, Runs, Has, HeldFits, GatheredFits, SeatFits, IsKept}
 use Rattle.actor_table.specs.Steps.{gathered_of, after_gather, gather_view}
 use Rattle.actor_table.specs.Values.{StageValue, SeatValue, seat_of}
-use Rattle.actor_table.specs.Closed.{AreAllOf, IsUnused, HoldsUnused, AreOf}
+use Rattle.actor_table.specs.Closed.{AreAllOf, IsUnused, HoldsUnused, AreOf, HaveHistory}
 use Rattle.actor_table.proofs.Histories.{get_snoc, length-bounded}
 use Rattle.actor_table.proofs.Goings.{held≢used}
 use Rattle.actor_table.proofs.Counting.{Found, each-has}
@@ -119,10 +119,7 @@ holds-unused actors words history spot by (Arrived m) r f = is-unused actors wor
 
 -- all that is told of the seats, over one history
 pub record Closes (stage : StageValue) (seats : List SeatValue) (count : ℕ) : Type 0 where
-  pub history : List HistoryEntry
-  pub length_is : length history ≡ count
-  pub is_history : IsHistory stage.actors history
-  pub are_of : AreOf stage.actors history seats
+  pub have : HaveHistory stage.actors count seats
   pub bound : count ≤ stage.actors * most_entries
 
 pub closes : (stage : StageValue) (seats : List SeatValue) (id n : ℕ) (me : Me (Unit {0}) View) (ws : List ℕ) (xs : List (Unit {0}))
@@ -146,16 +143,18 @@ closes stage seats id n me ws xs all g f e =
     λ j k s t p q same. parts-apart stage.actors h.history h.keeper h.spot id w fits j k (gathered_of s.at) (gathered_of t.at) (there j s p) (there k t q) same in
     let small : length h.history ≤ stage.actors * most_entries = length-bounded stage.actors most_entries h.history h.runs.makers h.runs.counts in
     record {
-      history = h.history;
-      length_is = sym word;
-      is_history = is-history stage.actors f.0.words h.history h.spot h.runs;
-      are_of = record {
-        own = λ k s q. (of k s q).own;
-        actor = λ k s q. (of k s q).below;
-        apart = apart;
-        all = λ a lt. let x : Found a seats = each-has stage.actors seats all.count (λ k s q. (of k s q).below) apart a lt in (x.place, x.seat, x.there, x.actor);
-        held = λ k s q. holds-unused stage.actors f.0.words h.history h.spot id s.at.held h.runs (of k s q).held;
-        seen = λ k s q. (of k s q).seen;
+      have = record {
+        history = h.history;
+        count_is = sym word;
+        is_history = is-history stage.actors f.0.words h.history h.spot h.runs;
+        are_of = record {
+          own = λ k s q. (of k s q).own;
+          actor = λ k s q. (of k s q).below;
+          apart = apart;
+          all = λ a lt. let x : Found a seats = each-has stage.actors seats all.count (λ k s q. (of k s q).below) apart a lt in (x.place, x.seat, x.there, x.actor);
+          held = λ k s q. holds-unused stage.actors f.0.words h.history h.spot id s.at.held h.runs (of k s q).held;
+          seen = λ k s q. (of k s q).seen;
+        };
       };
       bound = omega (arith, word, small);
     }

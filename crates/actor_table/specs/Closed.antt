@@ -7,7 +7,7 @@ use Rattle.actor_table.specs.declared.stamped_entry.StampedEntry.{StampedEntry}
 use Rattle.actor_table.specs.declared.entry_count.EntryCount.{EntryCount}
 use Rattle.actor_table.specs.declared.held.Held.{Held}
 use Rattle.actor_table.specs.declared.held.Held.TheVariants.{Nothing, Made, Arrived}
-use Rattle.actor_table.specs.History.{HistoryEntry, entries_of, message_by, IsMessage}
+use Rattle.actor_table.specs.History.{HistoryEntry, entries_of, message_by, IsMessage, IsHistory}
 use Rattle.actor_table.specs.Rule.{SeenFits}
 use Rattle.actor_table.specs.Values.{StageValue, SeatValue}
 
@@ -36,7 +36,8 @@ pub record HasStamp (seats : List SeatValue) (n : ℕ) : Type 0 where
 pub record SharesStamps (count : ℕ) (seats : List SeatValue) : Type 0 where
   pub each : (n : ℕ) → n < count → HasStamp seats n
   pub below : (k i : ℕ) (e : StampedEntry) → Stands seats k i e → e.stamp < count
-  pub once : (j k i l : ℕ) (e f : StampedEntry) → Stands seats j i e → Stands seats k l f → e.stamp ≡ f.stamp → (j ≡ k) × (i ≡ l)
+  pub once : (j k i l : ℕ) (e f : StampedEntry) → Stands seats j i e → Stands seats k l f → e.stamp ≡ f.stamp
+      → (j ≡ k) × (i ≡ l)
   pub rises : (k i l : ℕ) (e f : StampedEntry) → Stands seats k i e → Stands seats k l f → i < l → e.stamp < f.stamp
 
 -- it is the message of an entry of the seats
@@ -49,8 +50,10 @@ pub record IsMade (seats : List SeatValue) (m : Message) : Type 0 where
 
 -- a message that an entry used was made by an entry with a smaller stamp, and no other entry used it
 pub record UsesOnce (seats : List SeatValue) : Type 0 where
-  pub made : (k i : ℕ) (e : StampedEntry) (m : Message) → Stands seats k i e → e.used ≡ Some m → IsMade seats m × (m.stamp < e.stamp)
-  pub once : (j k i l : ℕ) (e f : StampedEntry) (x y : Message) → Stands seats j i e → Stands seats k l f → e.used ≡ Some x → f.used ≡ Some y → x.stamp ≡ y.stamp → (j ≡ k) × (i ≡ l)
+  pub made : (k i : ℕ) (e : StampedEntry) (m : Message) → Stands seats k i e → e.used ≡ Some m
+      → IsMade seats m × (m.stamp < e.stamp)
+  pub once : (j k i l : ℕ) (e f : StampedEntry) (x y : Message) → Stands seats j i e → Stands seats k l f
+      → e.used ≡ Some x → f.used ≡ Some y → x.stamp ≡ y.stamp → (j ≡ k) × (i ≡ l)
 
 -- a seat has at least so many entries as the count says of its actor
 pub record IsWithin (seats : List SeatValue) (c : EntryCount) : Type 0 where
@@ -69,7 +72,8 @@ SeesNoMore seats = (k : ℕ) (s : SeatValue) (c : EntryCount) → get_elem? seat
 -- it is a message of the history that no entry used
 pub record IsUnused (history : List HistoryEntry) (m : Message) : Type 0 where
   pub message : IsMessage history m
-  pub unused : (k : ℕ) (e : HistoryEntry) (x : Message) → get_elem? history k ≡ some e → e.used ≡ Some x → x.stamp ≢ m.stamp
+  pub unused : (k : ℕ) (e : HistoryEntry) (x : Message) → get_elem? history k ≡ some e → e.used ≡ Some x
+      → x.stamp ≢ m.stamp
 
 abbrev pub HoldsUnused : List HistoryEntry → Held → Type 0
 HoldsUnused history Nothing = Unit {0}
@@ -80,7 +84,15 @@ HoldsUnused history (Arrived m) = IsUnused history m
 pub record AreOf (actors : ℕ) (history : List HistoryEntry) (seats : List SeatValue) : Type 0 where
   pub own : (k : ℕ) (s : SeatValue) → get_elem? seats k ≡ some s → s.at.own ≡ entries_of s.at.actor history
   pub actor : (k : ℕ) (s : SeatValue) → get_elem? seats k ≡ some s → s.at.actor < actors
-  pub apart : (j k : ℕ) (s t : SeatValue) → get_elem? seats j ≡ some s → get_elem? seats k ≡ some t → s.at.actor ≡ t.at.actor → j ≡ k
+  pub apart : (j k : ℕ) (s t : SeatValue) → get_elem? seats j ≡ some s → get_elem? seats k ≡ some t
+      → s.at.actor ≡ t.at.actor → j ≡ k
   pub all : (a : ℕ) → a < actors → (k : ℕ) × (s : SeatValue) × (get_elem? seats k ≡ some s) × (s.at.actor ≡ a)
   pub held : (k : ℕ) (s : SeatValue) → get_elem? seats k ≡ some s → HoldsUnused history s.at.held
   pub seen : (k : ℕ) (s : SeatValue) → get_elem? seats k ≡ some s → SeenFits actors history s.at.seen
+
+-- the entries of the seats, in the order of their stamps, are one history of so many entries
+pub record HaveHistory (actors count : ℕ) (seats : List SeatValue) : Type 0 where
+  pub history : List HistoryEntry
+  pub count_is : length history ≡ count
+  pub is_history : IsHistory actors history
+  pub are_of : AreOf actors history seats

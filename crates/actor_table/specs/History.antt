@@ -1,4 +1,4 @@
--- The history of a stage: the entries of all actors, in the order of their stamps.
+-- The history of a stage: the entries of all actors in the order of their stamps, the oldest first.
 use Rattle.std.specs.Prelude.{◌≡◌, ℕ, suc, ◌<◌, ◌^◌, eqb, Bool, true, false, List, [], ◌∷◌, Option, Some, None}
 use mathlib.Core.Option.{some}
 use lib.ListN.{get_elem?}
@@ -34,12 +34,12 @@ message_by actor e = record { stamp = e.stamp; maker = actor; entry = e.entry; a
 abbrev pub message_of : ℕ → HistoryEntry → Message
 message_of n e = message_by e.by (with_stamp n e)
 
--- the list, with the entry before it where the test is true
+-- the list, with the entry before it if the test is true
 abbrev pub push : Bool → StampedEntry → List StampedEntry → List StampedEntry
 push true e es = e ∷ es
 push false e es = es
 
--- the entries of one actor, each with its stamp, where the stamp of the first one of the list is n
+-- the entries of one actor, each with its stamp, if the first entry of the list has the stamp n
 abbrev pub entries_from : ℕ → ℕ → List HistoryEntry → List StampedEntry
 entries_from n actor [] = []
 entries_from n actor (e ∷ es) = push (eqb e.by actor) (with_stamp n e) (entries_from (suc n) actor es)
@@ -61,4 +61,5 @@ UsesEarlier history k (Some m) = IsMessage history m × (m.stamp < k)
 pub record IsHistory (actors : ℕ) (history : List HistoryEntry) : Type 0 where
   pub makers : (k : ℕ) (e : HistoryEntry) → get_elem? history k ≡ some e → e.by < actors
   pub earlier : (k : ℕ) (e : HistoryEntry) → get_elem? history k ≡ some e → UsesEarlier history k e.used
-  pub once : (j k : ℕ) (e f : HistoryEntry) (x y : Message) → get_elem? history j ≡ some e → get_elem? history k ≡ some f → e.used ≡ Some x → f.used ≡ Some y → x.stamp ≡ y.stamp → j ≡ k
+  pub once : (j k : ℕ) (e f : HistoryEntry) (x y : Message) → get_elem? history j ≡ some e → get_elem? history k ≡ some f
+      → e.used ≡ Some x → f.used ≡ Some y → x.stamp ≡ y.stamp → j ≡ k

@@ -62,7 +62,8 @@ pub record SeatFits (actors : ℕ) (history : List HistoryEntry) (keeper : ℕ �
   pub undealt : (a : ℕ) → v.next ≤ a → a < v.actor → (keeper a ≡ by) × (entries_of a history ≡ [])
   pub gathered : (k : ℕ) (g : GatheredSeat) → get_elem? v.gathered k ≡ some g → GatheredFits actors history keeper spot by g
   pub others : (k : ℕ) (g : GatheredSeat) → get_elem? v.gathered k ≡ some g → g.actor ≢ v.actor
-  pub apart : (j k : ℕ) (g h : GatheredSeat) → get_elem? v.gathered j ≡ some g → get_elem? v.gathered k ≡ some h → g.actor ≡ h.actor → j ≡ k
+  pub apart : (j k : ℕ) (g h : GatheredSeat) → get_elem? v.gathered j ≡ some g → get_elem? v.gathered k ≡ some h
+      → g.actor ≡ h.actor → j ≡ k
   pub held : HeldFits history spot by v.held
   pub seen : SeenFits actors history v.seen
 

@@ -15,7 +15,7 @@ use Rattle.actor_table.specs.declared.view.View.{View}
 use Rattle.actor_table.specs.declared.view.View.TheVariants.{Spent, Sits, Carries}
 use Rattle.actor_table.specs.History.{most_actors, most_entries, message_by}
 
--- an entry that stands where nothing reads it
+-- an entry for a place that nothing reads
 abbrev pub no_entry : Entry
 no_entry = record { actor = Tablet 0; reading = None; event = Restarted (Tablet 0) false }
 
@@ -79,7 +79,8 @@ abbrev pub IsBelow : ℕ → Option Message → Type 0
 IsBelow n None = Unit {0}
 IsBelow n (Some m) = m.stamp < n
 
--- a stamp is above those of the seat's entries, not among those known to be given, above that of the message that arrived, and fits the word
+-- a stamp is above those of the seat's entries, is not known to be given, is above that of the message that arrived, and
+-- fits the word
 pub record StampFits (n : ℕ) (v : SeatView) : Type 0 where
   pub rises : AreBelow n v.own
   pub later : v.known ≤ n

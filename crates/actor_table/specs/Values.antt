@@ -48,7 +48,7 @@ abbrev pub fresh_seats : TableId → ℕ → List SeatValue
 fresh_seats table zero = []
 fresh_seats table (suc k) = fresh_seats table k ++ fresh table k ∷ []
 
--- what a name stands for where no call picks it
+-- what a name stands for if no call picks it
 
 abbrev pub no_table : TableId
 no_table = record { words = 0; slots = 0; views_name = 0; atom = 0; block = 0; offset = 0; slot_names = [] }

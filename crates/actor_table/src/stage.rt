@@ -1,10 +1,9 @@
 //! What all actors share: the word that stamps their entries.
 ghost use Rattle.std.specs.Prelude.{◌≡◌, ◌+◌, ◌*◌, ◌^◌, ◌<◌, ◌≤◌, [], length, List, true, false, IfOk};
 ghost use Rattle.actor_table.specs.declared.view.View.TheVariants.{Sits};
-ghost use Rattle.actor_table.specs.History.{HistoryEntry, IsHistory};
 ghost use Rattle.actor_table.specs.Steps.{newcomer, after_act, arrived, has_arrived, has_message, note_from, after_leave, after_arrive, AreBelow, IsBelow, StampFits};
 ghost use Rattle.actor_table.specs.Values.{fresh, fresh_seats};
-ghost use Rattle.actor_table.specs.Closed.{AreAllOf, AreOf, SharesStamps, UsesOnce, SeesNoMore};
+ghost use Rattle.actor_table.specs.Closed.{AreAllOf, HaveHistory, SharesStamps, UsesOnce, SeesNoMore};
 
 use crate::arrive::Arrive;
 use crate::deal::Deal;
@@ -60,7 +59,8 @@ impl Stage {
     /// A stage, and the seats of its actors, the k-th of which is that of the actor k.
     pub fn open(alloc: Global, actors: u32) -> Result<(Stage, Vec<StageSeat>), Memory>
         requires { (0 < actors) × (actors ≤ 65536) }
-        ensures { IfOk result (λ r. (r.0.actors ≡ actors) × (r.1.items ≡ fresh_seats r.0.table actors)) }
+        ensures actors { IfOk result (λ r. r.0.actors ≡ actors) }
+        ensures seats { IfOk result (λ r. r.1.items ≡ fresh_seats r.0.table actors) }
     {
         let (table, mut first) = Table::of_words(alloc, &[0], &u64::from(actors))?;
         let last = actors - 1;
@@ -80,7 +80,8 @@ impl Stage {
         requires stage { seat.old.table ≡ self.now.table }
         requires room { length seat.old.at.own < 2 ^ 40 }
         requires said { E.seen entry.now ≡ N.said }
-        ensures seat { (seat.new.table ≡ seat.old.table) × (seat.new.at ≡ after_act result (E.seen entry.now) seat.old.at) }
+        ensures table { seat.new.table ≡ seat.old.table }
+        ensures seat { seat.new.at ≡ after_act result (E.seen entry.now) seat.old.at }
         ensures stamp { StampFits result seat.old.at }
     {
         let found = self
@@ -100,7 +101,8 @@ impl Stage {
         requires stage { seat.old.table ≡ self.now.table }
         requires room { length seat.old.at.own < 2 ^ 40 }
         requires uses { E.uses entry.now ≡ has_arrived seat.old.at.held }
-        ensures seat { (seat.new.table ≡ seat.old.table) × (seat.new.at ≡ after_act result (E.seen entry.now) seat.old.at) }
+        ensures table { seat.new.table ≡ seat.old.table }
+        ensures seat { seat.new.at ≡ after_act result (E.seen entry.now) seat.old.at }
         ensures rises { AreBelow result seat.old.at.own }
         ensures later { seat.old.at.known ≤ result }
         ensures answers { IsBelow result (arrived seat.old.at.held) }
@@ -114,8 +116,9 @@ impl Stage {
     pub fn leave(&self, seat: &mut StageSeat) -> Note
         requires stage { seat.old.table ≡ self.now.table }
         requires holds { has_message seat.old.at.held ≡ true }
-        ensures seat { (seat.new.table ≡ seat.old.table) × (seat.new.at ≡ after_leave seat.old.at) }
-        ensures note { (result.table ≡ seat.old.table) × (result.at ≡ note_from seat.old.at) }
+        ensures table { (seat.new.table ≡ seat.old.table) × (result.table ≡ seat.old.table) }
+        ensures seat { seat.new.at ≡ after_leave seat.old.at }
+        ensures note { result.at ≡ note_from seat.old.at }
     {
         let note = self.table.shared.split_seat::<Leave>(&mut seat.seat);
         Note { seat: note }
@@ -125,7 +128,8 @@ impl Stage {
     pub fn arrive(&self, seat: &mut StageSeat, note: Note)
         requires stage { (seat.old.table ≡ self.now.table) × (note.table ≡ self.now.table) }
         requires holds { has_message seat.old.at.held ≡ false }
-        ensures { (seat.new.table ≡ seat.old.table) × (seat.new.at ≡ after_arrive seat.old.at note.at) }
+        ensures table { seat.new.table ≡ seat.old.table }
+        ensures seat { seat.new.at ≡ after_arrive seat.old.at note.at }
     {
         let Note { seat: other } = note;
         self.table.shared.join_seat::<Arrive>(&mut seat.seat, other);
@@ -146,7 +150,7 @@ impl Stage {
         ensures bound { result ≤ self.actors * 2 ^ 40 }
 
         // The entries of all seats, in the order of their stamps, are one history.
-        ensures history { (history : List HistoryEntry) × (length history ≡ result) × IsHistory self.actors history × AreOf self.actors history seats.items }
+        ensures history { HaveHistory self.actors result seats.items }
     {
         let Stage { table } = self;
         let Some(last) = seats.pop() else {

@@ -37,10 +37,11 @@ returns c =
     let none : c.loop-next.seats.items ≡ [] = no-items c.loop-next.seats.items (omega (arith, h.ensures.cases.0, c.loop-next.seats.ok)) in
     let x : Closes c.args.self c.args.seats.items c.word-stamps.result = subst (λ (s : StageValue). Closes s c.args.seats.items c.word-stamps.result) stage
     (closes _ _ _ _ _ _ _ (subst (λ (s : StageValue). AreAllOf s c.args.seats.items) (sym stage) c.requires) (subst (λ l. Gathered c.args.seats.items l c.loop-next.first.me) none c.loop-next.invariant.1) c.close_with-closed.ensures.values.2 c.word-stamps.ensures) in
+    let y = x.have in
     record {
-      stamps = subst (λ (n : ℕ). SharesStamps n c.args.seats.items) x.length_is (shares-stamps _ _ _ x.is_history x.are_of);
-      messages = uses-once _ _ _ x.is_history x.are_of;
-      counts = sees-no-more _ _ _ x.is_history x.are_of;
+      stamps = subst (λ (n : ℕ). SharesStamps n c.args.seats.items) y.count_is (shares-stamps _ _ _ y.is_history y.are_of);
+      messages = uses-once _ _ _ y.is_history y.are_of;
+      counts = sees-no-more _ _ _ y.is_history y.are_of;
       bound = x.bound;
-      history = (x.history, x.length_is, x.is_history, x.are_of);
+      history = y;
     }

@@ -11,4 +11,4 @@ returns c =
     let e = c.in_ok-push-2.ensures.items in
     let n : suc c.loop-next.next ≡ c.args.actors = omega (arith, c.loop-next-test.false, c.loop-next.auto.next-end) in
     let last : c.args.actors - 1 ≡ c.loop-next.next = omega arith in
-    (c.in_ok-table.ensures.5 ∙ c.from.ensures, e ∙ all-dealt _ _ _ _ _ _ i.0 i.1 i.2 last n)
+    record { actors = c.in_ok-table.ensures.5 ∙ c.from.ensures; seats = e ∙ all-dealt _ _ _ _ _ _ i.0 i.1 i.2 last n }
