@@ -4,3 +4,5 @@ pub mod Judging
 pub mod Walking
 pub mod Agreeing
 pub mod Placing
+pub mod Places
+pub mod Sorting

@@ -7,6 +7,7 @@
 
 mod events;
 mod failed_read;
+mod merging;
 mod origin;
 mod session_clocks;
 mod skew;
@@ -14,4 +15,5 @@ mod skew;
 mod tests;
 mod walk;
 
+pub use merging::merge;
 pub use skew::clocks_agree;
