@@ -217,7 +217,7 @@ printed c h =
     subst (λ (t : List ℕ). IsDocumentText false (table_of c) t) (rows_text c)
     (subst (λ (es : List Expression). IsLinesText false false es (flat_map row_text (rows_of c))) (sym (expressions_of c)) (lines_are false (rows_of c) (rows_are c h)))
 
-valid : (c : Config) → members_have_valid_dates (table_of c) ≡ true
+pub valid : (c : Config) → members_have_valid_dates (table_of c) ≡ true
 valid c = rw (integers_valid c.start_us) refl
 
 sorted : (c : Config) → members_are_sorted (table_of c) ≡ true

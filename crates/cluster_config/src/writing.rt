@@ -9,6 +9,7 @@ ghost use Rattle.cluster_config.specs.Written.{head_text};
 
 use docdb_base::Memory;
 use std::alloc::{AllocError, Global};
+use toml::ser::Error;
 use toml::{Table, Value};
 use txn_data::{Config, Schedule};
 
@@ -79,6 +80,8 @@ pub fn write_head(alloc: Global, config: &Config) -> Result<String, Memory>
     let table = table_of(alloc, config)?;
     match toml::table_to_string(alloc, &table) {
         Ok(text) => Ok(text),
-        Err(_) => Err(AllocError),
+        Err(Error::OutOfMemory) => Err(AllocError),
+        // A head has no date.
+        Err(Error::DateInvalid) => unreachable!(),
     }
 }
