@@ -33,8 +33,9 @@ impl Counts {
         }
     }
 
-    /// The counts with one more that was told. A count past 64 bits is answered as out of memory: a history that
-    /// comes to one has no room in any.
+    /// The counts with one more that was told. A count past 64 bits is answered as out of memory, so that no other
+    /// number is shown. In a run each restart has entries of its own, so no memory holds a run that comes to one.
+    /// That is not proved.
     pub(crate) fn with(&self, told: &Told) -> Result<Counts, Memory>
         ensures { IfOk result (λ n. n ≡ counts_with told.now self.now) }
     {
