@@ -9,7 +9,7 @@ use txn_types::Told;
 
 /// How many of the commands that sessions were told are of each kind, and how often the finished reads restarted.
 #[derive(Clone, Copy, Debug, Drop, PartialEq, Eq)]
-pub struct Counts {
+pub(crate) struct Counts {
     pub commands: u64,
     pub ok: u64,
     pub refused: u64,

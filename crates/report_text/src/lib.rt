@@ -18,7 +18,6 @@ mod told_line;
 mod total;
 mod word;
 
-pub use counts::Counts;
 pub use laws::the_total_says_whether_clocks_agreed;
 pub use reporting::report;
 
