@@ -16,6 +16,3 @@ pub use head_refusal::HeadRefusal;
 pub use laws::what_is_written_is_read;
 pub use reading::read_head;
 pub use writing::write_head;
-
-#[cfg(test)]
-mod tests;

@@ -8,6 +8,3 @@ mod making;
 mod plan;
 
 pub use making::make;
-
-#[cfg(test)]
-mod tests;

@@ -49,6 +49,3 @@ pub use script_refusal::ScriptRefusal;
 pub use verb::Verb;
 pub use why::Why;
 pub use writing::write_script;
-
-#[cfg(test)]
-mod tests;

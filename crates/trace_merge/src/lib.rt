@@ -9,13 +9,9 @@
 mod events;
 mod failed_read;
 mod merging;
-#[cfg(test)]
-mod merging_tests;
 mod origin;
 mod session_clocks;
 mod skew;
-#[cfg(test)]
-mod tests;
 mod walk;
 
 pub use merging::merge;

@@ -1,10 +1,10 @@
 //! Whether clocks agreed, by small histories. What was asked and told in them is left out where the answer does not look
 //! at it.
-use crate::clocks_agree;
 use docdb_base::{Memory, Seq};
 use hybrid_time::HybridTime;
 use std::alloc::Global;
 use std::test::Fail;
+use trace_merge::clocks_agree;
 use txn_types::{
     Actor, Append, Command, Entry, Event, Refusal, Reply, Request, Told, ToldRefusal, Trace, TxnId,
 };

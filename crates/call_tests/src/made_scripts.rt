@@ -1,5 +1,5 @@
 //! Made scripts, worked by hand.
-use crate::make;
+use load_maker::make;
 use script_text::read_script;
 use std::test::Fail;
 use txn_data::Command;

@@ -1,39 +1,7 @@
 //! Scripts, worked by hand.
-use crate::lines::cut_line;
-use crate::numbers::{integer_of, number_in};
-use crate::paths::place_of;
-use crate::terms::value_of;
-use crate::words::words_of;
-use crate::{ScriptRefusal, Why, read_script, write_script};
+use script_text::{ScriptRefusal, Why, read_script, write_script};
 use std::test::Fail;
 use txn_data::{GoLine, Mover, Schedule};
-
-#[test]
-fn parts_words(rt: HostRuntime) -> Result<(), Fail> {
-    let words = words_of(rt.alloc(), b"  1: put [;\"a b\"]  1 ")?;
-    assert_eq!(rt; words.len(), 4);
-    assert_eq!(rt; words[2], b"[;\"a b\"]".as_slice());
-    let (line, rest) = cut_line(b"ab\n\nc");
-    assert_eq!(rt; line, b"ab".as_slice());
-    assert_eq!(rt; rest, b"\nc".as_slice());
-    Ok(())
-}
-
-#[test]
-fn reads_terms(rt: HostRuntime) -> Result<(), Fail> {
-    assert_eq!(rt; number_in(0, 100, b"100"), Some(100));
-    assert_eq!(rt; number_in(0, 100, b"0100"), None);
-    assert_eq!(rt;
-        integer_of(b"-9223372036854775808"),
-        Some(-9_223_372_036_854_775_808)
-    );
-    assert_eq!(rt; integer_of(b"-0"), None);
-    let value = value_of(rt.alloc(), b"\"a\\x0f\"");
-    assert!(rt; matches!(value, Ok(_)));
-    let place = place_of(rt.alloc(), 2, b"[false;true,false]/#2/1");
-    assert!(rt; matches!(place, Ok(_)));
-    Ok(())
-}
 
 #[test]
 fn reads_scripts(rt: HostRuntime) {

@@ -1,5 +1,5 @@
 //! Heads, worked by hand.
-use crate::{HeadRefusal, read_head, write_head};
+use cluster_config::{HeadRefusal, read_head, write_head};
 use std::test::Fail;
 use txn_data::{Config, Schedule};
 
