@@ -1,0 +1,3 @@
+mod Own
+pub mod Matching
+pub mod Seats

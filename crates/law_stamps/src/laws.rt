@@ -1,0 +1,12 @@
+//! Entries in the order of their stamps. A call does nothing.
+ghost use Rattle.law_stamps.specs.Stamps.{SeatsMakeARun, StampsMatch};
+
+/// In the history of a stage that keeps the tables, what is served and heard is in flight.
+pub fn stamps_match()
+    ensures { StampsMatch }
+{}
+
+/// The entries of all seats of a closed stage, in the order of their stamps, are a run where each seat keeps its table.
+pub fn seats_make_a_run()
+    ensures { SeatsMakeARun }
+{}

@@ -1,0 +1,12 @@
+//! Entries in the order of their stamps are a run.
+//!
+//! A stage of `actor_table` tells, when it is closed, that the entries of all seats are one history in the order of their
+//! stamps, in which each used message was made earlier, and was used once. Where each seat's own entries are allowed by its
+//! actor's table, and each Serve, Restarted and Hear used the message that it answers, that history is a run: what is
+//! served and heard is in flight. Whoever builds actors over the stage shows the two premises for each seat alone. A call
+//! does nothing.
+#![tactic(auto)]
+
+mod laws;
+
+pub use laws::{seats_make_a_run, stamps_match};
