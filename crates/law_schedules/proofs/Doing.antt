@@ -19,7 +19,7 @@ use Rattle.mover_chain.specs.NextEvent.{given_by, has_event, is_left, session_st
 use Rattle.mover_chain.proofs.Counted.{IsIdle}
 use Rattle.mover_chain.proofs.Fronts.{Front, front_of}
 use Rattle.mover_chain.proofs.States.{Same, applier_has, applier_left, session_has, session_left}
-use Rattle.law_schedules.specs.Courses.{at_work, Course}
+use Rattle.law_schedules.specs.Courses.{at_work, Course, CourseBy}
 use Rattle.law_schedules.specs.Laws.{CoursesDoAll}
 use Rattle.law_schedules.proofs.Moving.{stood_self, steps_stood}
 use Rattle.law_schedules.proofs.Passing.{all_passed, IsTablet, Passed, passes_stood}
@@ -27,7 +27,7 @@ use Rattle.law_schedules.proofs.Few.{few_by}
 
 -- ## no mover has an event left
 
-none_at : (config : Config) (plan : Commands) (h : History) (a : Actor) → at_work config plan h ≡ [] → Member a (movers config plan) → has_event (given_by plan) config a h ≡ false
+pub none_at : (config : Config) (plan : Commands) (h : History) (a : Actor) → at_work config plan h ≡ [] → Member a (movers config plan) → has_event (given_by plan) config a h ≡ false
 none_at config plan h a none member = elim (test_cases (has_event (given_by plan) config a h)) [
   | inr over ↦ over
   | inl some ↦ absurd (subst (λ (names : List Actor). Member a names) none (member_filter (λ (b : Actor). has_event (given_by plan) config b h) a (movers config plan) member some))
@@ -44,10 +44,10 @@ up_member m (suc t) k low high = elim (eq_cases m k) [
     above : (i j : ℕ) → i ≤ j → (i ≡ j → ⊥) → i + 1 ≤ j
     above i j le not = omega (arith, le, not)
 
-session_in : (config : Config) (plan : Commands) (p : SessionPlan) → Member p plan.sessions → Member (Session p.session) (movers config plan)
+pub session_in : (config : Config) (plan : Commands) (p : SessionPlan) → Member p plan.sessions → Member (Session p.session) (movers config plan)
 session_in config plan p member = member_left (Session p.session) (map (λ (q : SessionPlan). Session q.session) plan.sessions) (map Applier (from_up 0 config.tablets)) (member_map (λ (q : SessionPlan). Session q.session) p plan.sessions member)
 
-applier_in : (config : Config) (plan : Commands) (k : ℕ) → k < config.tablets → Member (Applier k) (movers config plan)
+pub applier_in : (config : Config) (plan : Commands) (k : ℕ) → k < config.tablets → Member (Applier k) (movers config plan)
 applier_in config plan k there = member_right (Applier k) (map (λ (q : SessionPlan). Session q.session) plan.sessions) (map Applier (from_up 0 config.tablets)) (member_map Applier k (from_up 0 config.tablets) (up_member 0 config.tablets k (omega arith) (omega (arith, there))))
 
 -- ## sessions
@@ -88,14 +88,17 @@ passes_all : (passes begun : ℕ) (line : Option Command) → applier_left passe
 passes_all passes begun (Some l) over few = absurd (let many = ltb-false begun (passes + 1) over in omega (arith, many, few))
 passes_all passes begun None over few = (refl, let many = ltb-false begun passes over in omega (arith, many, few))
 
--- before the last passes each applier has made its passes beside the sessions
-pub passes_done : (config : Config) (plan : Commands) (h : History) (course : Course config plan h) → Steps config h → (k : ℕ) → IsTablet 0 config.tablets k → IsIdle config (Applier k) course.before × (started (Applier k) course.before + 1 ≡ config.passes + 1)
+-- where a schedule has come to its end, each applier has made its passes beside the sessions
+pub passes_beside : (config : Config) (plan : Commands) (h : History) → Steps config h → CourseBy config.schedule config plan h → at_work config plan h ≡ [] → (k : ℕ) → k < config.tablets → IsIdle config (Applier k) h × (started (Applier k) h ≡ config.passes)
+passes_beside config plan h steps chosen none k there =
+    let few = few_by config.schedule config plan k h steps there chosen in
+    let over = sym (applier_has config plan k h (lt-ltb k config.tablets there)) ∙ none_at config plan h (Applier k) none (applier_in config plan k there) in
+    passes_all config.passes (started (Applier k) h) (mover_at config (Applier k) h).line over few
+
+passes_done : (config : Config) (plan : Commands) (h : History) (course : Course config plan h) → Steps config h → (k : ℕ) → IsTablet 0 config.tablets k → IsIdle config (Applier k) course.before × (started (Applier k) course.before + 1 ≡ config.passes + 1)
 passes_done config plan h course steps k within =
-    let there : k < config.tablets = let high = within.1 in omega (arith, high) in
     let steps_then = steps_stood config course.before h (passes_stood config course.before h course.last) steps in
-    let few = few_by config.schedule config plan k course.before steps_then there course.chosen in
-    let over = sym (applier_has config plan k course.before (lt-ltb k config.tablets there)) ∙ none_at config plan course.before (Applier k) course.none_left (applier_in config plan k there) in
-    let all = passes_all config.passes (started (Applier k) course.before) (mover_at config (Applier k) course.before).line over few in
+    let all = passes_beside config plan course.before steps_then course.chosen course.none_left k (let high = within.1 in omega (arith, high)) in
     (all.0, let same = all.1 in omega (arith, same))
 
 pub last_passed : (config : Config) (plan : Commands) (h : History) (course : Course config plan h) → Steps config h → Passed config h (config.passes + 1) 0 config.tablets course.before h

@@ -103,7 +103,7 @@ few_first config k = let none = none_begun (Applier k) in omega (arith, none)
 
 -- ## by schedule
 
-at_first : (config : Config) (i : ℕ) → HasMade config 0 [] i
+pub at_first : (config : Config) (i : ℕ) → HasMade config 0 [] i
 at_first config i = (idle_first config (Session i), none_begun (Session i))
 
 same_kept : (config : Config) (k : ℕ) (g h : History) → Same config (Applier k) g h → IsIdle config (Applier k) g × (started (Applier k) g ≡ 0) → IsIdle config (Applier k) h × (started (Applier k) h ≡ 0)

@@ -1,11 +1,11 @@
-mod Moving
-mod Counting
-mod Telling
-mod Silent
-mod Passing
-mod Ordering
-mod Ending
-mod Going
-mod Few
-mod Doing
-mod Scheduling
+pub mod Moving
+pub mod Counting
+pub mod Telling
+pub mod Silent
+pub mod Passing
+pub mod Ordering
+pub mod Ending
+pub mod Going
+pub mod Few
+pub mod Doing
+pub mod Scheduling

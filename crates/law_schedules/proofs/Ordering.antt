@@ -20,11 +20,11 @@ pub count_first : (i : ℕ) → count i [] ≡ 0
 unfolding count
 count_first i = refl
 
-count_step : (i j : ℕ) (js : List ℕ) → count i (j ∷ js) ≡ count i js + (if nat_eq i j then 1 else 0)
+pub count_step : (i j : ℕ) (js : List ℕ) → count i (j ∷ js) ≡ count i js + (if nat_eq i j then 1 else 0)
 unfolding count
 count_step i j js = refl
 
-count_same : (i : ℕ) (js : List ℕ) → count i (i ∷ js) ≡ count i js + 1
+pub count_same : (i : ℕ) (js : List ℕ) → count i (i ∷ js) ≡ count i js + 1
 count_same i js = count_step i i js ∙ rw (eq_refl i) refl
 
 count_other : (i j : ℕ) (js : List ℕ) → nat_eq i j ≡ false → count i (j ∷ js) ≡ count i js

@@ -33,11 +33,11 @@ one_stood moved each (x ∷ xs) g h all =
     let first = one_first moved x xs g h all in
     stood_over g first.0 h (each x g first.0 first.1) (one_stood moved each xs first.0 h first.2)
 
-up_first : (n t : ℕ) → from_up n (suc t) ≡ n ∷ from_up (n + 1) t
+pub up_first : (n t : ℕ) → from_up n (suc t) ≡ n ∷ from_up (n + 1) t
 unfolding from_up
 up_first n t = refl
 
-up_none : (n : ℕ) → from_up n zero ≡ []
+pub up_none : (n : ℕ) → from_up n zero ≡ []
 unfolding from_up
 up_none n = refl
 
@@ -55,7 +55,7 @@ Stands config n h k = IsIdle config (Applier k) h × (started (Applier k) h ≡ 
 pub same_stands : (config : Config) (n k : ℕ) (g h : History) → Same config (Applier k) g h → Stands config n g k → Stands config n h k
 same_stands config n k g h same stands = (same.line ∙ stands.0, ap length same.begun ∙ stands.1)
 
-other_applier : (m k : ℕ) → (m ≡ k → ⊥) → same_actor (Applier m) (Applier k) ≡ false
+pub other_applier : (m k : ℕ) → (m ≡ k → ⊥) → same_actor (Applier m) (Applier k) ≡ false
 other_applier m k not = elim (same_cases (Applier m) (Applier k)) [
   | inl same ↦ absurd (not (let is : Applier m ≡ Applier k = same.1 in cc))
   | inr other ↦ other.0

@@ -21,7 +21,7 @@ use Rattle.law_schedules.proofs.Counting.{all_of_one, begins, no_more}
 
 -- ## entry by entry
 
-under_begun : (config : Config) (a : Actor) (e : Entry) (h : History) → Steps config (e ∷ h) → IsIdle config a h → same_actor (asker e) a ≡ true → IsUnderWay (mover_at config a (e ∷ h)).line
+pub under_begun : (config : Config) (a : Actor) (e : Entry) (h : History) → Steps config (e ∷ h) → IsIdle config a h → same_actor (asker e) a ≡ true → IsUnderWay (mover_at config a (e ∷ h)).line
 under_begun config a e h steps idle mine =
     let start = idle_makes_none config a e h steps idle mine in
     rw (mover_own config a e h start.3) (rw start.2 tt)
@@ -29,7 +29,7 @@ under_begun config a e h steps idle mine =
 never_both : (line : Option Command) → line ≡ None → IsUnderWay line → ⊥
 never_both line none under = subst IsUnderWay none under
 
-goes_on : (config : Config) (a : Actor) (e : Entry) (h : History) → Steps config (e ∷ h) → same_actor (asker e) a ≡ true → tells a e ≡ false → IsUnderWay (mover_at config a h).line →
+pub goes_on : (config : Config) (a : Actor) (e : Entry) (h : History) → Steps config (e ∷ h) → same_actor (asker e) a ≡ true → tells a e ≡ false → IsUnderWay (mover_at config a h).line →
     IsUnderWay (mover_at config a (e ∷ h)).line × (started a (e ∷ h) ≡ started a h)
 goes_on config a e h steps mine silent under = by_event e.event refl
   where
