@@ -1,20 +1,23 @@
 -- The movers that have an event left, where one of them was moved.
-use Rattle.std.proofs.Common.{◌≡◌, ℕ, zero, suc, ◌+◌, Bool, true, false, not, List, [], ◌∷◌, ◌++◌, filter, if◌then◌else◌, map, refl, sym, ◌∙◌, ap, subst, inl, inr, arith}
-use Rattle.std.specs.List.{remove}
+use Rattle.std.proofs.Common.{◌≡◌, ℕ, zero, suc, ◌+◌, ◌%◌, Bool, true, false, not, List, [], ◌∷◌, ◌++◌, Some, None, filter, if◌then◌else◌, length, map, refl, sym, ◌∙◌, ap, subst, inl, inr, arith}
+use Rattle.std.specs.List.{remove, slice_get}
+use Rattle.docdb_base.specs.Generator.{next_state, draw_of}
 use Rattle.txn_data.specs.declared.actor.Actor.{Actor}
 use Rattle.txn_data.specs.declared.actor.Actor.TheVariants.{Session, Applier}
 use Rattle.txn_data.specs.declared.commands.Commands.{Commands}
 use Rattle.txn_data.specs.declared.config.Config.{Config}
 use Rattle.txn_data.specs.declared.entry.Entry.{Entry}
+use Rattle.txn_data.specs.declared.mover.Mover.{Mover}
 use Rattle.txn_data.specs.declared.session_plan.SessionPlan.{SessionPlan}
 use Rattle.txn_types.specs.Lists.{Member}
 use Rattle.txn_types.specs.History.{History, same_actor}
 use Rattle.txn_types.specs.Plan.{AreRising}
-use Rattle.txn_types.specs.Script.{asker, at_position, from_up, movers}
+use Rattle.txn_types.specs.Script.{actor_of, asker, at_position, drawn_of, from_up, movers}
 use Rattle.law_machines.proofs.Basics.{filter_member, map_member, member_cases, same_cases, same_refl}
 use Rattle.mover_chain.specs.NextEvent.{given_by, has_event}
-use Rattle.law_schedules.specs.Courses.{at_work}
+use Rattle.law_schedules.specs.Courses.{at_work, DrawnTo}
 use Rattle.law_schedules.proofs.Ending.{above, rising_rest}
+use Rattle.law_moves.specs.Moving.{MovedOnce}
 use Rattle.law_moves.proofs.Leaving.{others_stay}
 use Rattle.law_moves.proofs.Over.{up_within}
 
@@ -150,3 +153,48 @@ leaves_work config plan a n e h rising mine at over =
 -- who is drawn among them has an event left
 pub drawn_has : (config : Config) (plan : Commands) (a : Actor) (n : ℕ) (h : History) → at_position n (at_work config plan h) ≡ a ∷ [] → has_event (given_by plan) config a h ≡ true
 drawn_has config plan a n h at = (filter_member (λ (b : Actor). has_event (given_by plan) config b h) a (movers config plan) (position_member n (at_work config plan h) a at)).1
+
+-- ## a list of movers
+
+pub position_at : (ws : List Mover) (n : ℕ) (m : Mover) → slice_get ws n ≡ Some m → at_position n (map actor_of ws) ≡ actor_of m ∷ []
+unfolding at_position
+position_at [] n m is = absurd (let not_one : None ≡ Some m = is in cc)
+position_at (w ∷ ws) zero m is = ap (λ (v : Mover). actor_of v ∷ []) (let same : Some w ≡ Some m = is in cc)
+position_at (w ∷ ws) (suc n) m is = position_at ws n m is
+
+pub map_remove : (ws : List Mover) (n : ℕ) → map actor_of (remove ws n) ≡ remove (map actor_of ws) n
+map_remove [] zero = refl
+map_remove [] (suc n) = refl
+map_remove (w ∷ ws) zero = refl
+map_remove (w ∷ ws) (suc n) = ap (λ (l : List Actor). actor_of w ∷ l) (map_remove ws n)
+
+drawn_is : (draw : ℕ) (names : List Actor) (a : Actor) → at_position (draw % length names) names ≡ a ∷ [] → drawn_of draw names ≡ a ∷ []
+unfolding at_position
+drawn_is draw [] a is = is
+drawn_is draw (b ∷ more) a is = is
+
+pub drawn_first : (config : Config) (plan : Commands) → DrawnTo config plan config.number []
+unfolding DrawnTo
+drawn_first config plan = refl
+
+drawn_cons : (config : Config) (plan : Commands) (before state : ℕ) (e : Entry) (h : History) → DrawnTo config plan before h → state ≡ next_state before → drawn_of (draw_of state) (at_work config plan h) ≡ asker e ∷ [] → DrawnTo config plan state (e ∷ h)
+unfolding DrawnTo
+drawn_cons config plan before state e h drawn next at = (before, drawn, next, at)
+
+-- one more is drawn
+pub drawn_on : (config : Config) (plan : Commands) (before state : ℕ) (a : Actor) (h k : History) → DrawnTo config plan before h → state ≡ next_state before → MovedOnce a h k →
+    at_position (draw_of state % length (at_work config plan h)) (at_work config plan h) ≡ a ∷ [] → DrawnTo config plan state k
+drawn_on config plan before state a h k drawn next once at =
+    subst (DrawnTo config plan state) (sym once.adds)
+    (drawn_cons config plan before state once.entry h drawn next (drawn_is (draw_of state) (at_work config plan h) a at ∙ ap (λ (b : Actor). b ∷ []) (sym once.by)))
+
+-- ## the movers that have an event left, gathered one after another
+
+pub filter_more : (p : Actor → Bool) (xs : List Actor) (x : Actor) → filter p (xs ++ x ∷ []) ≡ filter p xs ++ (if p x then x ∷ [] else [])
+filter_more p [] x = refl
+filter_more p (y ∷ ys) x = by_test (filter_more p ys x) (p y)
+  where
+    by_test : filter p (ys ++ x ∷ []) ≡ filter p ys ++ (if p x then x ∷ [] else []) → (b : Bool) →
+        (if b then y ∷ filter p (ys ++ x ∷ []) else filter p (ys ++ x ∷ [])) ≡ (if b then y ∷ filter p ys else filter p ys) ++ (if p x then x ∷ [] else [])
+    by_test rest true = ap (λ (l : List Actor). y ∷ l) rest
+    by_test rest false = rest

@@ -1,6 +1,8 @@
+pub mod OneMore
 pub mod Leaving
 pub mod Enabled
 pub mod Rounds
 pub mod Over
 pub mod Drawing
-pub mod OneMore
+pub mod Clocks
+pub mod Loops
