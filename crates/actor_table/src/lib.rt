@@ -30,8 +30,6 @@ mod stage_seat;
 mod stamp;
 mod stamped;
 mod stamped_entry;
-#[cfg(test)]
-mod tests;
 mod view;
 
 pub use entry_count::EntryCount;

@@ -9,8 +9,6 @@ mod first_fates;
 mod intent_at;
 mod kind;
 pub mod laws;
-#[cfg(test)]
-mod tests;
 mod write;
 mod write_decision;
 

@@ -7,7 +7,5 @@
 mod fold;
 mod order;
 mod scan;
-#[cfg(test)]
-mod tests;
 
 pub use fold::{fold_get, fold_scan};

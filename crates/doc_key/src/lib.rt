@@ -24,6 +24,3 @@ pub use laws::{
     what_is_spelled_is_read,
 };
 pub use read::{decode, read_key};
-
-#[cfg(test)]
-mod tests;

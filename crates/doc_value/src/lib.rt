@@ -23,6 +23,3 @@ pub use laws::{
 };
 pub use primitive::Primitive;
 pub use read::{decode, read_u32, read_u64, read_value};
-
-#[cfg(test)]
-mod tests;

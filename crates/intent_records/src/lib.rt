@@ -13,7 +13,5 @@ mod primary_record;
 mod record_key;
 mod related;
 mod search;
-#[cfg(test)]
-mod tests;
 
 pub use intents::Intents;

@@ -22,6 +22,3 @@ pub use laws::{
 pub use log_record::LogRecord;
 pub use read::decode;
 pub use record_refusal::RecordRefusal;
-
-#[cfg(test)]
-mod tests;

@@ -16,8 +16,6 @@ mod session_seat;
 mod session_work;
 mod stage;
 mod step;
-#[cfg(test)]
-mod tests;
 
 pub use applier_seat::ApplierSeat;
 pub use laws::events_are_own;

@@ -15,8 +15,6 @@ mod prefix_words;
 mod related;
 mod scan;
 mod store;
-#[cfg(test)]
-mod tests;
 mod version_key;
 mod version_value;
 mod versions;

@@ -17,6 +17,3 @@ pub use laws::{
     entries_move_the_clock, it_is_the_clock_of_the_tables, times_are_leased, times_rise,
 };
 pub use step::Step;
-
-#[cfg(test)]
-mod tests;

@@ -24,6 +24,3 @@ pub use read::decode;
 pub use show::path_text;
 pub use sub_doc_key::SubDocKey;
 pub use write::encode;
-
-#[cfg(test)]
-mod tests;

@@ -21,6 +21,3 @@ pub use log_refusal::LogRefusal;
 pub use read::replay;
 pub use replay_refusal::ReplayRefusal;
 pub use write::{append, frames};
-
-#[cfg(test)]
-mod tests;

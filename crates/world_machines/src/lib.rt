@@ -10,8 +10,6 @@ mod closing;
 mod entries;
 mod machines;
 mod opening;
-#[cfg(test)]
-mod tests;
 
 pub use answered::Answered;
 pub use machines::Machines;

@@ -12,8 +12,6 @@ mod asking;
 mod movers;
 mod session_slot;
 mod sessions;
-#[cfg(test)]
-mod tests;
 
 pub use asking::Asking;
 pub use mover_seat::{Moved, Step};
