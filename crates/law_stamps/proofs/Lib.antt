@@ -1,3 +1,5 @@
 mod Own
 pub mod Matching
 pub mod Seats
+mod Rising
+pub mod Merging
