@@ -1,5 +1,5 @@
 -- What is served and heard, by the messages that were used.
-use Rattle.std.proofs.Common.{◌≡◌, ◌⊎◌, ℕ, zero, suc, ◌<◌, ◌≤◌, Bool, true, false, List, [], ◌∷◌, ◌++◌, map, reverse, take, length, Option, Some, refl, sym, ◌∙◌, ap, subst, inl, inr, ⊎_elim, if◌then◌else◌, arith}
+use Rattle.std.proofs.Common.{◌≡◌, ◌⊎◌, ℕ, zero, suc, ◌<◌, ◌≤◌, List, [], ◌∷◌, ◌++◌, map, reverse, take, length, Option, Some, refl, sym, ◌∙◌, ap, subst, inl, inr, ⊎_elim, arith}
 use Rattle.std.proofs.lemmas.List.{map_push, reverse-append, take_all}
 use mathlib.Core.Option.{some, some-injective}
 use mathlib.Core.Logic.{dite}
@@ -12,20 +12,19 @@ use Rattle.txn_data.specs.declared.entry.Entry.{Entry}
 use Rattle.txn_data.specs.declared.config.Config.{Config}
 use Rattle.txn_data.specs.declared.request.Request.{Request}
 use Rattle.txn_data.specs.declared.request.Request.TheVariants as request
-use Rattle.txn_data.specs.declared.reply.Reply.{Reply}
 use Rattle.txn_data.specs.declared.reply.Reply.TheVariants as reply
-use Rattle.txn_types.specs.History.{History, same_actor, own}
+use Rattle.txn_types.specs.History.{History, own}
 use Rattle.txn_types.specs.Script.{asker}
 use Rattle.txn_types.specs.Run.{Flight, Quiet, Asked, Answered, flight, flight_after, CanHear}
 use Rattle.law_machines.proofs.Basics.{same_cases, same_refl}
-use Rattle.law_parts.specs.Parts.{OwnAllowed, OwnSteps, Matches, MessagesMatch, waits}
+use Rattle.law_parts.specs.Parts.{OwnAllowed, OwnSteps, Matches, MessagesMatch}
 use Rattle.law_parts.proofs.Own.{flight_other, moving_is, quiet_of}
 use Rattle.law_stamps.proofs.Own.{own_before, own_last}
 use Rattle.actor_table.specs.declared.message.Message.{Message}
 use Rattle.actor_table.specs.History.{HistoryEntry, IsHistory, IsMessage, UsesEarlier}
-use Rattle.actor_table.proofs.Histories.{no_elem, get_lt, get_there}
+use Rattle.actor_table.proofs.Histories.{no_elem, get_there}
 use Rattle.law_stamps.specs.Uses.{Sends, Uses, UsesAnswered}
-use Rattle.law_stamps.specs.Stamps.{merged, KeepsTables, StampsMatch}
+use Rattle.law_stamps.specs.Stamps.{merged, StampsMatch}
 
 -- ## the history before a stamp
 

@@ -85,22 +85,22 @@ first_entry n e es (s ∷ seats) apart has =
     elim (eq_cases s.at.actor e.by) [
       | inl same ↦
           let none : (k : ℕ) (t : SeatValue) → get_elem? seats k ≡ some t → t.at.actor ≡ e.by → ⊥ = λ k t at is.
-              let zero_is : 0 ≡ suc k = apart 0 (suc k) s t refl at (same.1 ∙ sym is) in omega (arith, zero_is) in
+          let zero_is : 0 ≡ suc k = apart 0 (suc k) s t refl at (same.1 ∙ sym is) in omega (arith, zero_is) in
           let whole : own_parts n (e ∷ es) (s ∷ seats) ≡ x ∷ own_parts (suc n) es (s ∷ seats) =
-              ap (λ (l : List Stamped1). l ++ own_parts n (e ∷ es) seats) (part_mine n e es s same.1)
-              ∙ ap (λ (l : List Stamped1). x ∷ (own_part (suc n) es s ++ l)) (parts_other n e es seats none) in
+          ap (λ (l : List Stamped1). l ++ own_parts n (e ∷ es) seats) (part_mine n e es s same.1)
+          ∙ ap (λ (l : List Stamped1). x ∷ (own_part (suc n) es s ++ l)) (parts_other n e es seats none) in
           subst (IsPermutation (own_parts n (e ∷ es) (s ∷ seats))) whole (IsPermutation-refl (own_parts n (e ∷ es) (s ∷ seats)))
       | inr other ↦
           let p = own_part (suc n) es s in
           let rest = own_parts (suc n) es seats in
           let whole : own_parts n (e ∷ es) (s ∷ seats) ≡ p ++ own_parts n (e ∷ es) seats =
-              ap (λ (l : List Stamped1). l ++ own_parts n (e ∷ es) seats) (part_other n e es s other.1) in
+          ap (λ (l : List Stamped1). l ++ own_parts n (e ∷ es) seats) (part_other n e es s other.1) in
           let inner : IsPermutation (own_parts n (e ∷ es) seats) (x ∷ rest) =
-              first_entry n e es seats (λ j k t u at there is. let next : suc j ≡ suc k = apart (suc j) (suc k) t u at there is in omega (arith, next)) (later_seat e.by s seats other.1 has) in
+          first_entry n e es seats (λ j k t u at there is. let next : suc j ≡ suc k = apart (suc j) (suc k) t u at there is in omega (arith, next)) (later_seat e.by s seats other.1 has) in
           subst (λ (l : List Stamped1). IsPermutation l (x ∷ (p ++ rest))) (sym whole)
           (IsPermutation-trans (p ++ own_parts n (e ∷ es) seats) (p ++ (x ∷ rest)) (x ∷ (p ++ rest))
-            (IsPermutation-append_right p (own_parts n (e ∷ es) seats) (x ∷ rest) inner)
-            (IsPermutation-middle p x rest))
+          (IsPermutation-append_right p (own_parts n (e ∷ es) seats) (x ∷ rest) inner)
+          (IsPermutation-middle p x rest))
     ]
 
 -- the parts of all seats have the entries of the history
@@ -126,9 +126,9 @@ same_entries actors count seats histories closed parts =
     let history = closed.history in
     let are = closed.are_of in
     let whole : stamped_of histories ≡ own_parts 0 history seats =
-        ap joined parts
-        ∙ flat_map-map (λ (part : List Stamped1). part) (λ (s : SeatValue). part_of s.at.own) seats
-        ∙ seat_parts history seats are.own in
+    ap joined parts
+    ∙ flat_map-map (λ (part : List Stamped1). part) (λ (s : SeatValue). part_of s.at.own) seats
+    ∙ seat_parts history seats are.own in
     subst (λ (l : List Stamped1). IsPermutation l (numbered_from 0 history)) (sym whole)
     (one_history 0 history seats are.apart (λ i e at. are.all e.by (closed.is_history.makers i e at)))
 
@@ -152,8 +152,8 @@ are_the_history actors count seats histories list closed parts merged =
     let all = stamped_of histories in
     let same = same_entries actors count seats histories closed parts in
     let order : merged.sorted ≡ whole =
-        one_sorted merged.sorted whole (rises_of merged.sorted merged.rising) (numbered_rises 0 closed.history)
-        (IsPermutation-trans merged.sorted all whole (IsPermutation-sym all merged.sorted merged.same) same) in
+    one_sorted merged.sorted whole (rises_of merged.sorted merged.rising) (numbered_rises 0 closed.history)
+    (IsPermutation-trans merged.sorted all whole (IsPermutation-sym all merged.sorted merged.same) same) in
     merged.entries ∙ ap (λ (l : List Stamped1). map (λ (s : Stamped1). s.entry) l) order ∙ numbered_entries 0 closed.history
 
 pub merged_run : MergedPartsMakeARun

@@ -1,5 +1,5 @@
 -- Entries whose stamps rise: two such lists of the same entries are one list.
-use Rattle.std.proofs.Common.{◌≡◌, ◌⊎◌, ℕ, zero, suc, ◌<◌, false, List, [], ◌∷◌, nat_eq, map, length, refl, sym, ap, subst, inl, inr, ⊎_elim, ne_eqb, arith}
+use Rattle.std.proofs.Common.{◌≡◌, ◌⊎◌, ℕ, zero, suc, ◌<◌, false, List, [], ◌∷◌, nat_eq, refl, sym, ap, subst, inl, inr, ⊎_elim, ne_eqb, arith}
 use Rattle.std.specs.Prelude.{IsPermutation, Contains}
 use Rattle.std.specs.List.{AllByRecursion, IsDistinct}
 use Rattle.std.specs.List.Sorted.{IsStrictlyIncreasing, IsStrictlySortedBy}
@@ -50,9 +50,9 @@ same_first x y xs ys one two there back =
     ⊎_elim
     (λ is. sym is)
     (λ late. ⊎_elim
-      (λ is. is)
-      (λ other. let low = above_at y.stamp x ys two.0 late in let high = above_at x.stamp y xs one.0 other in absurd (omega (arith, low, high)))
-      (contains_cases x y xs (back y (contains_first y ys))))
+    (λ is. is)
+    (λ other. let low = above_at y.stamp x ys two.0 late in let high = above_at x.stamp y xs one.0 other in absurd (omega (arith, low, high)))
+    (contains_cases x y xs (back y (contains_first y ys))))
     (contains_cases y x ys (there x (contains_first x xs)))
 
 same_rest : (x : Stamped1) (xs ys : List Stamped1) → Above x.stamp xs → Within (x ∷ xs) (x ∷ ys) → Within xs ys

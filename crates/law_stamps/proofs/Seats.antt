@@ -1,5 +1,5 @@
 -- The entries of the seats of a closed stage.
-use Rattle.std.proofs.Common.{◌≡◌, ◌⊎◌, ℕ, zero, suc, ◌+◌, ◌<◌, eqb, eq-eqb, ne_eqb, Bool, true, false, List, [], ◌∷◌, ◌++◌, map, filter, reverse, refl, sym, ◌∙◌, ap, subst, inl, inr, ⊎_elim, if◌then◌else◌, arith}
+use Rattle.std.proofs.Common.{◌≡◌, ◌⊎◌, ℕ, zero, suc, ◌+◌, ◌<◌, eqb, eq-eqb, ne_eqb, Bool, false, List, [], ◌∷◌, ◌++◌, map, filter, reverse, refl, sym, ◌∙◌, ap, subst, inl, inr, ⊎_elim, arith}
 use Rattle.std.proofs.lemmas.List.{reverse-append, append-nil}
 use Rattle.std.proofs.lemmas.List.Elements.{filter-append}
 use mathlib.Core.Option.{some}
@@ -7,14 +7,14 @@ use lib.ListN.{get_elem?}
 use Rattle.txn_data.specs.declared.actor.Actor.{Actor}
 use Rattle.txn_data.specs.declared.entry.Entry.{Entry}
 use Rattle.txn_data.specs.declared.config.Config.{Config}
-use Rattle.txn_types.specs.History.{History, same_actor, own}
+use Rattle.txn_types.specs.History.{same_actor, own}
 use Rattle.law_machines.proofs.Basics.{test_cases, same_cases}
 use Rattle.law_parts.specs.Parts.{OwnSteps}
 use Rattle.law_parts.proofs.RunsOf.{parts_run}
 use Rattle.law_stamps.proofs.Own.{own_none}
 use Rattle.actor_table.specs.declared.stamped_entry.StampedEntry.{StampedEntry}
 use Rattle.actor_table.specs.History.{HistoryEntry, IsHistory, with_stamp, entries_from, entries_of}
-use Rattle.actor_table.specs.Closed.{AreOf, HaveHistory}
+use Rattle.actor_table.specs.Closed.{AreOf}
 use Rattle.actor_table.specs.Values.{SeatValue}
 use Rattle.actor_table.proofs.Histories.{among}
 use Rattle.law_stamps.specs.Uses.{UsesAnswered}

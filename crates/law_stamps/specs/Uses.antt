@@ -2,7 +2,7 @@
 use Rattle.std.specs.Prelude.{◌≡◌, Option, Some}
 use Rattle.txn_data.specs.declared.actor.Actor.{Actor}
 use Rattle.txn_data.specs.declared.event.Event.{Event}
-use Rattle.txn_data.specs.declared.event.Event.TheVariants.{Start, Ask, Serve, Hear, Tell, Restarted}
+use Rattle.txn_data.specs.declared.event.Event.TheVariants.{Ask, Serve, Hear, Restarted}
 use Rattle.txn_data.specs.declared.request.Request.TheVariants as request
 use Rattle.txn_data.specs.declared.reply.Reply.{Reply}
 use Rattle.txn_data.specs.declared.reply.Reply.TheVariants as reply

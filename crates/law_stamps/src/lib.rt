@@ -14,5 +14,6 @@
 mod laws;
 
 pub use laws::{
-    merged_parts_make_a_run, parts_are_the_history, parts_may_be_merged, seats_make_a_run, stamps_match,
+    merged_parts_make_a_run, parts_are_the_history, parts_may_be_merged, seats_make_a_run,
+    stamps_match,
 };
