@@ -30,7 +30,7 @@ one_mapped moved f [] g h all = all
 one_mapped moved f (x ∷ xs) g h (next, first, more) = (next, first, one_mapped moved f xs next h more)
 
 -- numbers that go up
-up_last : (n t : ℕ) → from_up n (suc t) ≡ from_up n t ++ (n + t) ∷ []
+pub up_last : (n t : ℕ) → from_up n (suc t) ≡ from_up n t ++ (n + t) ∷ []
 up_last n zero = up_first n zero ∙ ap (λ (l : List ℕ). n ∷ l) (up_none (n + 1)) ∙ ap (λ (m : ℕ). m ∷ []) (same n) ∙ ap (λ (l : List ℕ). l ++ (n + zero) ∷ []) (sym (up_none n))
   where
     same : (m : ℕ) → m ≡ m + zero
