@@ -1,0 +1,9 @@
+pub mod Going
+pub mod Advancing
+pub mod Ways
+pub mod Lists
+pub mod Parts
+pub mod Draws
+pub mod Ends
+pub mod Leaving
+pub mod Telling
